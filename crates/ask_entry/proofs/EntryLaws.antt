@@ -19,12 +19,11 @@ use Rattle.base.proofs.IfLaws.{if_true, if_false, not_via, not_not_via}
 use Rattle.lex_number.specs.ValueWord.{zero_word}
 use Rattle.table_layout.specs.Layout.{sections, matrices}
 use Rattle.table_layout.specs.declared.View.{View}
+use Rattle.std.specs.Prelude.{None, Result, Ok, Err}
 use Rattle.ask_sound.specs.Sound.{is_sound, sound_view}
 use Rattle.ask_sound.specs.Way.Judged.{SoundRecords}
-use Rattle.ask_sound.proofs.SoundLaws.{told_unsound, told_sound}
+use Rattle.ask_sound.proofs.SoundLaws.{told_unsound}
 use Rattle.ask_entry.specs.Entry.{EntryWords, found_with, entry_refused, entry_words, matrix_index, word_at, matrix_values, entry_of, is_in_range, entry_from, entry_answer}
-use Rattle.ask_entry.specs.declared.Answer.{Answer}
-use Rattle.ask_entry.specs.declared.Answer.TheVariants.{Found, Refused}
 use Rattle.ask_entry.proofs.ReadyLaws.{range_section, matrix_few, conductors_few}
 
 -- ---- "entry (j,i) is entry (i,j)"
@@ -63,43 +62,39 @@ exchange t table section kind row column =
 
 -- ---- one answer
 
-pub one_answer : (a b : Answer) → entry_words a ≡ entry_words b → a ≡ b
-one_answer (Found x) (Found y) e = ap (λ (w : EntryWords). Found w.word) e
-one_answer (Found x) (Refused y) e = absurd (true≢false (ap (λ (w : EntryWords). w.found) e))
-one_answer (Refused x) (Found y) e = absurd (true≢false (sym (ap (λ (w : EntryWords). w.found) e)))
-one_answer (Refused x) (Refused y) e = ap (λ (w : EntryWords). Refused w.rule) e
+pub one_answer : (a b : Result ℕ ℕ) → entry_words a ≡ entry_words b → a ≡ b
+one_answer (Ok x) (Ok y) e = ap (λ (w : EntryWords). Ok w.word) e
+one_answer (Ok x) (Err y) e = absurd (true≢false (ap (λ (w : EntryWords). w.found) e))
+one_answer (Err x) (Ok y) e = absurd (true≢false (sym (ap (λ (w : EntryWords). w.found) e)))
+one_answer (Err x) (Err y) e = ap (λ (w : EntryWords). Err w.rule) e
 
 -- any two answers that satisfy the contract are equal
-pub unique : (t table : List ℕ) (section kind row column : ℕ) (a b : Answer) →
+pub unique : (t table : List ℕ) (section kind row column : ℕ) (a b : Result ℕ ℕ) →
     entry_words a ≡ entry_answer t table section kind row column → entry_words b ≡ entry_answer t table section kind row column → a ≡ b
 unique t table section kind row column a b e f = one_answer a b (e ∙ sym f)
 
 -- ---- what is known at each `return`
 
 module _ (table : List ℕ) (section kind row column : ℕ) (inside : Bool) (is_inside_lem : inside ≡ is_in_range (records_of table) section kind row column) where
-  pub from_no_such : not inside ≡ true → entry_words (Refused refusal.no_such) ≡ entry_from (records_of table) section kind row column
+  pub from_no_such : not inside ≡ true → entry_words (Err refusal.no_such) ≡ entry_from (records_of table) section kind row column
   unfolding entry_from
   from_no_such e = sym (if_true _ _ (not_via (sym is_inside_lem ∙ not-true inside e)))
 
   module _ (there : not inside ≡ false) (s : SectionRecord) (here : s ≡ get_or (records_of table).sections section no_section) (index : ℕ) (is_index : index ≡ matrix_index s kind) where
-    pub from_found : (word : ℕ) → word ≡ entry_of (records_of table) index row column → entry_words (Found word) ≡ entry_from (records_of table) section kind row column
+    pub from_found : (word : ℕ) → word ≡ entry_of (records_of table) index row column → entry_words (Ok word) ≡ entry_from (records_of table) section kind row column
     unfolding entry_from
     from_found word e =
         ap found_with (e ∙ ap (λ (n : ℕ). entry_of (records_of table) n row column) (is_index ∙ ap (λ (x : SectionRecord). matrix_index x kind) here))
         ∙ sym (if_false _ _ (not_not_via (sym is_inside_lem ∙ not-false inside there)))
 
 module _ (t table : List ℕ) (section kind row column : ℕ) where
-  pub answer_known : is_sound t table ≡ true → (a : Answer) → entry_words a ≡ entry_from (records_of table) section kind row column → entry_words a ≡ entry_answer t table section kind row column
+  pub answer_known : is_sound t table ≡ true → (a : Result ℕ ℕ) → entry_words a ≡ entry_from (records_of table) section kind row column → entry_words a ≡ entry_answer t table section kind row column
   unfolding entry_answer
   answer_known sound a e = e ∙ sym (if_false _ _ (not_not_via sound))
 
-  module _ (v : View) (is : v ≡ sound_view t table) where
-    pub answer_unsound : not v.fits ≡ true → entry_words (Refused refusal.table) ≡ entry_answer t table section kind row column
-    unfolding entry_answer
-    answer_unsound e = sym (if_true _ _ (not_via (told_unsound t table v is e)))
-
-    pub answer_sound : not v.fits ≡ false → (a : Answer) → entry_words a ≡ entry_from (records_of table) section kind row column → entry_words a ≡ entry_answer t table section kind row column
-    answer_sound fits = answer_known (told_sound t table v is fits)
+  pub answer_unsound : None ≡ sound_view t table → entry_words (Err refusal.table) ≡ entry_answer t table section kind row column
+  unfolding entry_answer
+  answer_unsound none = sym (if_true _ _ (not_via (told_unsound t table none)))
 
 -- what the functions below ask for
 module _ (table : List ℕ) (v : View) (rooms : Rooms table v) (records : SoundRecords table) (section kind row column : ℕ)

@@ -14,11 +14,11 @@ use borrow.Author.Tests.{lt-ltb, le-ltb, not-true, not-false}
 use Rattle.base.specs.Refusal as refusal
 use Rattle.base.proofs.IfLaws.{if_true, if_false, not_via, not_not_via}
 use Rattle.table_layout.specs.Bounds.{most_conductors}
-use Rattle.table_layout.specs.declared.View.{View}
 use Rattle.table_record.specs.declared.SectionRecord.{SectionRecord}
 use Rattle.table_record.specs.Records.{Records, records_of, no_section}
+use Rattle.std.specs.Prelude.{None}
 use Rattle.ask_sound.specs.Sound.{is_sound, sound_view}
-use Rattle.ask_sound.proofs.SoundLaws.{told_unsound, told_sound}
+use Rattle.ask_sound.proofs.SoundLaws.{told_unsound}
 use Rattle.ask_entry.specs.Entry.{matrix_index, is_in_range}
 use Rattle.ask_entry.specs.WholeMatrix.{found_of, short_of, whole_words, square_of, section_conductors, matrix_from, matrix_answer, room_after}
 use Rattle.ask_entry.specs.declared.WholeAnswer.{WholeAnswer}
@@ -81,13 +81,9 @@ module _ (t table : List ℕ) (section kind room : ℕ) where
   unfolding matrix_answer
   whole_known sound a e = e ∙ sym (if_false _ _ (not_not_via sound))
 
-  module _ (v : View) (is : v ≡ sound_view t table) where
-    pub whole_sound : not v.fits ≡ false → (a : WholeAnswer) → whole_words a ≡ matrix_from (records_of table) section kind room → whole_words a ≡ matrix_answer t table section kind room
-    whole_sound fits = whole_known (told_sound t table v is fits)
-
-    pub whole_unsound : not v.fits ≡ true → whole_words (Refused refusal.table) ≡ matrix_answer t table section kind room
-    unfolding matrix_answer
-    whole_unsound e = sym (if_true _ _ (not_via (told_unsound t table v is e)))
+  pub whole_unsound : None ≡ sound_view t table → whole_words (Refused refusal.table) ≡ matrix_answer t table section kind room
+  unfolding matrix_answer
+  whole_unsound none = sym (if_true _ _ (not_via (told_unsound t table none)))
 
 pub square_fits : (conductors : ℕ) → conductors ≤ most_conductors → Fits w64 (conductors * conductors)
 square_fits conductors few =

@@ -1,7 +1,7 @@
 -- Document 01: the question "entry (text, table, section, kind R L G C, row, column: a value word)". "Entries not written, and kinds not
 -- given, are zero; entry (j,i) is entry (i,j)."
 -- Assumes nothing.
-use Rattle.std.specs.Prelude.{ℕ, ◌-◌, min, max, Bool, true, false, not, List, [], ◌∷◌, length, get_or, ltb, eqb}
+use Rattle.std.specs.Prelude.{Result, Ok, Err, ℕ, ◌-◌, min, max, Bool, true, false, not, List, [], ◌∷◌, length, get_or, ltb, eqb}
 use Rattle.table_record.specs.Records.{Records, records_of, range, no_section, no_matrix}
 use Rattle.table_record.specs.declared.Value.{Value}
 use Rattle.table_record.specs.declared.MatrixRecord.{MatrixRecord}
@@ -12,8 +12,6 @@ use Rattle.table_layout.specs.Codes.{resistance_kind, inductance_kind, conductan
 use Rattle.base.specs.Bytes.{within}
 use Rattle.lex_number.specs.ValueWord.{zero_word}
 use Rattle.ask_sound.specs.Sound.{is_sound}
-use Rattle.ask_entry.specs.declared.Answer.{Answer}
-use Rattle.ask_entry.specs.declared.Answer.TheVariants.{Found, Refused}
 
 -- the words of the answer: "refused, they return the number and line 0, every other word 0"; `found` is false for a refusal
 pub record EntryWords : Type 0 where
@@ -29,9 +27,9 @@ abbrev pub entry_refused : ℕ → EntryWords
 entry_refused rule = record { found = false; rule = rule; line = 0; word = 0 }
 
 -- the paper's number and words for each case
-abbrev pub entry_words : Answer → EntryWords
-entry_words (Found word) = found_with word
-entry_words (Refused rule) = entry_refused rule
+abbrev pub entry_words : Result ℕ ℕ → EntryWords
+entry_words (Ok word) = found_with word
+entry_words (Err rule) = entry_refused rule
 
 -- ---- one entry
 

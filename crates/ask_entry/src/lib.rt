@@ -9,56 +9,23 @@ ghost use Rattle.table_layout.specs.Layout.{matrices, value_width};
 ghost use Rattle.table_layout.specs.Bounds.{most_conductors};
 ghost use Rattle.table_record.specs.Records.{records_of};
 ghost use Rattle.table_record.specs.Way.Standing.{count_of, values_from, Rooms};
-ghost use Rattle.doc.specs.Holds.{comes_before, rises};
+ghost use Rattle.doc.specs.Holds.{rises};
 ghost use Rattle.ask_sound.specs.Sound.{is_sound};
 ghost use Rattle.ask_sound.specs.Way.Judged.{SoundRecords};
 ghost use Rattle.ask_entry.specs.Entry.{entry_words, matrix_index, word_at, entry_of, is_in_range, entry_from, entry_answer};
-ghost use Rattle.ask_entry.specs.Way.Asked.{asked};
 ghost use Rattle.ask_entry.specs.WholeMatrix.{whole_words, row_from, square_of, matrix_from, matrix_answer, room_after};
 
+use std::cmp::Ordering;
 use table_layout::View;
-use table_record::{SectionRecord, Value};
+use table_record::{MatrixRecord, SectionRecord, Value, Words};
 
 // The value word of zero.
 const ZERO: u64 = 128;
 
-// The value word, or the rule of a refusal.
-#[derive(Clone, Copy)]
-pub enum Answer {
-    Found(u64),
-    Refused(u64),
-}
-
 // ---- the values of a matrix
 
-// Whether a value comes before the row and column asked for.
-fn is_before(value: Value, row: u64, column: u64) -> bool
-    ensures { result ≡ comes_before value (asked row column) }
-{
-    if value.row < row {
-        return true;
-    }
-    if value.row != row {
-        return false;
-    }
-    value.column < column
-}
-
-// Whether it comes after them.
-fn is_behind(value: Value, row: u64, column: u64) -> bool
-    ensures { result ≡ comes_before (asked row column) value }
-{
-    if row < value.row {
-        return true;
-    }
-    if row != value.row {
-        return false;
-    }
-    column < value.column
-}
-
 // Binary search in `many` rising values, the first of which is at word `from`. The value asked for is between `low` and
-// `high` (not `high` itself), or it is not written.
+// `high` (not `high` itself), or it is not written. By hand, as the search of a slice does not go over rows of words.
 fn word_at(table: &[u64], from: usize, many: u64, row: u64, column: u64) -> u64
     requires { (from + value_width * many ≤ length table.now) × (rises most_conductors (values_from table.now from many) ≡ true) }
     ensures { result ≡ word_at row column (values_from table.now from many) }
@@ -68,16 +35,12 @@ fn word_at(table: &[u64], from: usize, many: u64, row: u64, column: u64) -> u64
     while low < high {
         let middle = low + (high - low) / 2;
         let at = from + table_layout::VALUE_WIDTH * (middle as usize);
-        let value = table_record::value_at(table, at);
-        if is_before(value, row, column) {
-            low = middle + 1;
-            continue;
+        let value = Value::at(table, at);
+        match (value.row, value.column).cmp(&(row, column)) {
+            Ordering::Less => low = middle + 1,
+            Ordering::Greater => high = middle,
+            Ordering::Equal => return value.word,
         }
-        if is_behind(value, row, column) {
-            high = middle;
-            continue;
-        }
-        return value.word;
     }
     ZERO
 }
@@ -93,7 +56,7 @@ fn entry_in(table: &[u64], view: View, index: u64, row: u64, column: u64) -> u64
         return ZERO;
     }
     let bases = view.bases;
-    let matrix = table_record::nth_matrix(table, view, index - 1);
+    let matrix = table_record::nth::<MatrixRecord>(table, view, index - 1);
     let from = bases[table_layout::VALUES] + table_layout::VALUE_WIDTH * (matrix.first as usize);
     let low = base::lesser(row, column);
     let high = base::greater(row, column);
@@ -112,7 +75,7 @@ fn is_in_range(table: &[u64], view: View, section: u64, kind: u64, row: u64, col
     if table_layout::code::MATRIX_KINDS <= kind {
         return false;
     }
-    let record = table_record::nth_section(table, view, section);
+    let record = table_record::nth::<SectionRecord>(table, view, section);
     if !lex_number::is_within(1, record.conductors, row) {
         return false;
     }
@@ -136,26 +99,39 @@ fn matrix_index(section: SectionRecord, kind: u64) -> u64
 }
 
 // The answer in a sound table.
-fn entry_from(table: &[u64], view: View, section: u64, kind: u64, row: u64, column: u64) -> Answer
+fn entry_from(
+    table: &[u64],
+    view: View,
+    section: u64,
+    kind: u64,
+    row: u64,
+    column: u64,
+) -> Result<u64, u64>
     requires { Rooms table.now view × SoundRecords table.now }
     ensures { entry_words result ≡ entry_from (records_of table.now) section kind row column }
 {
     if !is_in_range(table, view, section, kind, row, column) {
-        return Answer::Refused(base::refusal::NOSUCH);
+        return Err(base::refusal::NOSUCH);
     }
-    let record = table_record::nth_section(table, view, section);
+    let record = table_record::nth::<SectionRecord>(table, view, section);
     let index = matrix_index(record, kind);
-    Answer::Found(entry_in(table, view, index, row, column))
+    Ok(entry_in(table, view, index, row, column))
 }
 
-// One entry of a section's matrix, as a value word.
-pub fn entry(text: &[u8], table: &[u64], section: u64, kind: u64, row: u64, column: u64) -> Answer
+// One entry of a section's matrix, as a value word; or the rule of a refusal.
+pub fn entry(
+    text: &[u8],
+    table: &[u64],
+    section: u64,
+    kind: u64,
+    row: u64,
+    column: u64,
+) -> Result<u64, u64>
     ensures { entry_words result ≡ entry_answer text.now table.now section kind row column }
 {
-    let view = ask_sound::sound_view(text, table);
-    if !view.fits {
-        return Answer::Refused(base::refusal::TABLE);
-    }
+    let Some(view) = ask_sound::sound_view(text, table) else {
+        return Err(base::refusal::TABLE);
+    };
     entry_from(table, view, section, kind, row, column)
 }
 
@@ -168,7 +144,7 @@ pub fn entry_unjudged(
     kind: u64,
     row: u64,
     column: u64,
-) -> Answer
+) -> Result<u64, u64>
     requires { is_sound text.now table.now ≡ true }
     ensures { entry_words result ≡ entry_answer text.now table.now section kind row column }
 {
@@ -199,12 +175,8 @@ fn put_row(
     requires { Rooms table.now view × SoundRecords table.now × (index ≤ count_of view matrices) × (conductors ≤ most_conductors) × (at + conductors ≤ length values.old) }
     ensures { values.new ≡ sets values.old at (row_from (records_of table.now) index row 1 conductors) }
 {
-    let mut column = 1;
-    let mut to = at;
-    while column <= conductors {
-        values[to] = entry_in(table, view, index, row, column);
-        to += 1;
-        column += 1;
+    for column in 0..conductors {
+        values[at + (column as usize)] = entry_in(table, view, index, row, column + 1);
     }
 }
 
@@ -213,12 +185,9 @@ fn put_rows(table: &[u64], view: View, index: u64, conductors: u64, values: &mut
     requires { Rooms table.now view × SoundRecords table.now × (index ≤ count_of view matrices) × (conductors ≤ most_conductors) × (conductors * conductors ≤ length values.old) }
     ensures { values.new ≡ sets values.old 0 (square_of (records_of table.now) index conductors) }
 {
-    let mut row = 1;
-    let mut to = 0;
-    while row <= conductors {
-        put_row(table, view, index, row, conductors, values, to);
-        to += conductors as usize;
-        row += 1;
+    for row in 0..conductors {
+        let to = (row as usize) * (conductors as usize);
+        put_row(table, view, index, row + 1, conductors, values, to);
     }
 }
 
@@ -236,7 +205,7 @@ fn matrix_from(
     if !is_in_range(table, view, section, kind, 1, 1) {
         return WholeAnswer::Refused(base::refusal::NOSUCH);
     }
-    let record = table_record::nth_section(table, view, section);
+    let record = table_record::nth::<SectionRecord>(table, view, section);
     let conductors = record.conductors;
     if values.len() < (conductors as usize) * (conductors as usize) {
         return WholeAnswer::Short(conductors);
@@ -256,10 +225,9 @@ pub fn whole_matrix(
 ) -> WholeAnswer
     ensures { (whole_words result ≡ matrix_answer text.now table.now section kind (length values.old)) × (values.new ≡ room_after table.now section kind (whole_words result) values.old) }
 {
-    let view = ask_sound::sound_view(text, table);
-    if !view.fits {
+    let Some(view) = ask_sound::sound_view(text, table) else {
         return WholeAnswer::Refused(base::refusal::TABLE);
-    }
+    };
     matrix_from(table, view, section, kind, values)
 }
 

@@ -3,57 +3,58 @@
 use mathlib.Core.Path.{◌≡◌, refl, sym, ◌∙◌, ap}
 use mathlib.Core.Bool.{Bool, true, false, not}
 use mathlib.Core.List.{List, [], ◌∷◌, map}
-use Prim.Native.Nat.{ℕ, zero, suc, ◌+◌, ◌-◌, ◌*◌, ◌^◌, ◌≤◌, ◌<◌, zero-le}
-use native.Mathlib.Nat.{add-zero, sub-zero, mul-zero, mul-suc, mul-le-mul, le_refl, not-suc-le-zero}
+use Prim.Native.Nat.{ℕ, zero, suc, ◌+◌, ◌-◌, ◌*◌, ◌≤◌, ◌<◌, zero-le}
+use native.Mathlib.Nat.{le_of_suc-le-suc, add-zero, sub-zero, mul-zero, mul-suc, mul-le-mul, le_refl, not-suc-le-zero}
 use native.Mathlib.Numerals.{add-one}
 use native.Mathlib.Omega.{arith}
-use mir.Syntax.{w64}
-use mir.Val.{Fits}
-use lib.ListN.{length, drop, get_or, drop_of_length-le}
-use lib.Seq.{drop-cons}
+use lib.ListN.{length, get_or}
 use lib.Dec.{eqb}
-use borrow.Author.Tests.{eq-eqb, ne_eqb, ltb-true, not-true, not-false}
+use borrow.Author.Tests.{eq-eqb, eqb-true, ltb-true, not-true, not-false}
 use Rattle.ask_sound.specs.Way.Judging.{goes_on, is_record, are_records, are_parts, ValueReaches}
 use Rattle.table_record.specs.Way.Standing.{places, step_at, value_at, base_of, count_of, places_of, Rooms, kinds_from, values_from}
 use Rattle.table_record.specs.declared.StepRecord.{StepRecord}
 use Rattle.table_record.specs.declared.Value.{Value}
 use Rattle.table_layout.specs.Codes.{fork_kind, endfork_kind}
 use Rattle.base.specs.If.{provided◌then◌else◌, both}
-use Rattle.base.proofs.IfLaws.{if_true, if_false, by_cases, both_rest, both_not_left}
+use Rattle.base.proofs.IfLaws.{if_true, if_false, by_cases, both_true, both_first, both_second, both_rest, both_not_left}
+use Rattle.std.specs.Prelude.{IsTrue, ◌↔◌}
+use Rattle.std.specs.List.{All}
 use Rattle.table_layout.specs.Layout.{widths, part_count, step_width, value_width}
 use Rattle.table_layout.specs.Bounds.{deepest, most_conductors}
 use Rattle.table_layout.specs.declared.View.{View}
 use Rattle.doc.specs.Holds.{is_in_upper_half, comes_before, rises}
 use Rattle.ask_sound.specs.Sound.{every, depth_stays, depth_after, depth_holds, are_zeros}
-use Rattle.table_layout.proofs.StoreLaws.{widths_some}
 
 -- a loop's invariant: after i of `many` records of w words, the rest gives the result of all
-pub record Left {A : Type 0} (w from many : ℕ) (over : ℕ → ℕ → A) (whole : A) (at i : ℕ) : Type 0 where
+pub record Left {A : Type 0} (w from many : ℕ) (over : ℕ → ℕ → A) (whole : A) (i : ℕ) : Type 0 where
   pub most : i ≤ many
-  pub place : at ≡ from + w * i
-  pub same : over at (many - i) ≡ whole
+  pub same : over (from + w * i) (many - i) ≡ whole
 
-left_starts : {A : Type 0} (w from many : ℕ) (over : ℕ → ℕ → A) → Left w from many over (over from many) from 0
+left_starts : {A : Type 0} (w from many : ℕ) (over : ℕ → ℕ → A) → Left w from many over (over from many) 0
 left_starts w from many over =
-    record { most = zero-le; place = rw (mul-zero w) (sym (add-zero from)); same = ap (over from) (sub-zero many) }
+    let p : from + w * 0 ≡ from = rw (mul-zero w) (add-zero from) in
+    record { most = zero-le; same = λ i. over (p i) (sub-zero many i) }
 
-module _ {A : Type 0} (w from many : ℕ) (over : ℕ → ℕ → A) (whole : A) (at i : ℕ) (left : Left w from many over whole at i) where
-  left_ends : many ≤ i → over at zero ≡ whole
+module _ {A : Type 0} (w from many : ℕ) (over : ℕ → ℕ → A) (whole : A) (i : ℕ) (left : Left w from many over whole i) where
+  abbrev next : ℕ
+  next = from + w * i
+
+  left_ends : many ≤ i → over next zero ≡ whole
   left_ends h =
       let e : many - i ≡ 0 = omega arith in
       rw e at left.same
 
   module _ (h : i < many) where
-    left_here : over at (suc (many - (i + 1))) ≡ whole
+    left_here : over next (suc (many - (i + 1))) ≡ whole
     left_here =
         let e : many - i ≡ suc (many - (i + 1)) = omega arith in
         rw e at left.same
 
-    left_on : (next : ℕ → ℕ → A) → next (at + w) (many - (i + 1)) ≡ whole → Left w from many next whole (at + w) (i + 1)
-    left_on next e =
+    left_on : (test : ℕ → ℕ → A) → test (next + w) (many - (i + 1)) ≡ whole → Left w from many test whole (i + 1)
+    left_on test e =
         let m : w * (i + 1) ≡ w * i + w = rw (add-one i) (mul-suc w i) in
-        let p : at ≡ from + w * i = left.place in
-        record { most = omega arith; place = omega arith; same = e }
+        let p : from + w * (i + 1) ≡ next + w = omega arith in
+        record { most = omega arith; same = ap (λ (n : ℕ). test n (many - (i + 1))) p ∙ e }
 
 -- ---- the depth along a model's steps
 
@@ -93,45 +94,48 @@ depth_cons :
 unfolding depth_holds kinds_from places
 depth_cons d table at n = refl
 
-pub record DepthLeft (table : List ℕ) (from many depth at i : ℕ) : Type 0 where
+pub record DepthLeft (table : List ℕ) (from many depth i : ℕ) : Type 0 where
   pub deep : depth ≤ deepest
   pub most : i ≤ many
-  pub place : at ≡ from + step_width * i
-  pub same : depth_holds depth (kinds_from table at (many - i)) ≡ depth_holds 0 (kinds_from table from many)
+  pub same : depth_holds depth (kinds_from table (from + step_width * i) (many - i)) ≡ depth_holds 0 (kinds_from table from many)
 
-pub depth_starts : (table : List ℕ) (from many : ℕ) → DepthLeft table from many 0 from 0
+pub depth_starts : (table : List ℕ) (from many : ℕ) → DepthLeft table from many 0 0
 depth_starts table from many =
-    record { deep = zero-le; most = zero-le; place = omega arith; same = ap (λ (n : ℕ). depth_holds 0 (kinds_from table from n)) (sub-zero many) }
+    let l = left_starts step_width from many (λ (p n : ℕ). depth_holds 0 (kinds_from table p n)) in
+    record { deep = zero-le; most = zero-le; same = l.same }
 
-module _ (table : List ℕ) (from many depth at i : ℕ) (left : DepthLeft table from many depth at i) where
-  depth_left : Left step_width from many (λ (p n : ℕ). depth_holds depth (kinds_from table p n)) (depth_holds 0 (kinds_from table from many)) at i
-  depth_left = record { most = left.most; place = left.place; same = left.same }
+module _ (table : List ℕ) (from many depth i : ℕ) (left : DepthLeft table from many depth i) where
+  abbrev step_place : ℕ
+  step_place = from + step_width * i
+
+  depth_left : Left step_width from many (λ (p n : ℕ). depth_holds depth (kinds_from table p n)) (depth_holds 0 (kinds_from table from many)) i
+  depth_left = record { most = left.most; same = left.same }
 
   pub depth_ends : many ≤ i → eqb depth 0 ≡ depth_holds 0 (kinds_from table from many)
-  depth_ends h = nothing_left depth table at ∙ left_ends step_width from many _ _ at i depth_left h
+  depth_ends h = nothing_left depth table step_place ∙ left_ends step_width from many _ _ i depth_left h
 
-  module _ (h : i < many) (s : StepRecord) (here : s ≡ step_at table at) (stays : Bool) (by_step : stays ≡ depth_stays depth s.kind) where
-    told : stays ≡ depth_stays depth (step_at table at).kind
+  module _ (h : i < many) (s : StepRecord) (here : s ≡ step_at table step_place) (stays : Bool) (by_step : stays ≡ depth_stays depth s.kind) where
+    told : stays ≡ depth_stays depth (step_at table step_place).kind
     told = by_step ∙ ap (λ (x : StepRecord). depth_stays depth x.kind) here
 
     pub depth_refused : not stays ≡ true → false ≡ depth_holds 0 (kinds_from table from many)
     depth_refused e =
-        sym (both_not_left _ _ (sym told ∙ not-true stays e)) ∙ sym (depth_cons depth table at (many - (i + 1))) ∙ left_here step_width from many _ _ at i depth_left h
+        sym (both_not_left _ _ (sym told ∙ not-true stays e)) ∙ sym (depth_cons depth table step_place (many - (i + 1))) ∙ left_here step_width from many _ _ i depth_left h
 
-    pub depth_on : not stays ≡ false → (after : ℕ) → after ≡ depth_after depth s.kind → DepthLeft table from many after (at + step_width) (i + 1)
+    pub depth_on : not stays ≡ false → (after : ℕ) → after ≡ depth_after depth s.kind → DepthLeft table from many after (i + 1)
     depth_on e after is = rw (is ∙ ap (λ (x : StepRecord). depth_after depth x.kind) here) on
       where
-        kept : depth_stays depth (step_at table at).kind ≡ true
+        kept : depth_stays depth (step_at table step_place).kind ≡ true
         kept = sym told ∙ not-false stays e
 
-        goes : depth_holds (depth_after depth (step_at table at).kind) (kinds_from table (at + step_width) (many - (i + 1))) ≡ depth_holds 0 (kinds_from table from many)
-        goes = sym (both_rest _ _ kept) ∙ sym (depth_cons depth table at (many - (i + 1))) ∙ left_here step_width from many _ _ at i depth_left h
+        goes : depth_holds (depth_after depth (step_at table step_place).kind) (kinds_from table (step_place + step_width) (many - (i + 1))) ≡ depth_holds 0 (kinds_from table from many)
+        goes = sym (both_rest _ _ kept) ∙ sym (depth_cons depth table step_place (many - (i + 1))) ∙ left_here step_width from many _ _ i depth_left h
 
-        next : Left step_width from many (λ (p n : ℕ). depth_holds (depth_after depth (step_at table at).kind) (kinds_from table p n)) (depth_holds 0 (kinds_from table from many)) (at + step_width) (i + 1)
-        next = left_on step_width from many _ _ at i depth_left h _ goes
+        next : Left step_width from many (λ (p n : ℕ). depth_holds (depth_after depth (step_at table step_place).kind) (kinds_from table p n)) (depth_holds 0 (kinds_from table from many)) (i + 1)
+        next = left_on step_width from many _ _ i depth_left h _ goes
 
-        on : DepthLeft table from many (depth_after depth (step_at table at).kind) (at + step_width) (i + 1)
-        on = record { deep = stays_within depth (step_at table at).kind left.deep kept; most = next.most; place = next.place; same = next.same }
+        on : DepthLeft table from many (depth_after depth (step_at table step_place).kind) (i + 1)
+        on = record { deep = stays_within depth (step_at table step_place).kind left.deep kept; most = next.most; same = next.same }
 
 -- ---- the values of a matrix
 
@@ -192,35 +196,37 @@ module _ (table : List ℕ) (at many : ℕ) (some : 1 ≤ many) (v : Value) (her
         next (suc zero) h k = absurd (k refl)
         next (suc (suc n)) h k = is ∙ (λ j. comes_before (here j) (there j)) ∙ sym (goes_two table at n ∙ both_rest _ _ (sym told_inside ∙ not-false inside e))
 
-abbrev pub RiseLeft : List ℕ → ℕ → ℕ → ℕ → ℕ → Type 0
-RiseLeft table from many at i = Left value_width from many (λ (p n : ℕ). rises most_conductors (values_from table p n)) (rises most_conductors (values_from table from many)) at i
+abbrev pub RiseLeft : List ℕ → ℕ → ℕ → ℕ → Type 0
+RiseLeft table from many i = Left value_width from many (λ (p n : ℕ). rises most_conductors (values_from table p n)) (rises most_conductors (values_from table from many)) i
 
-pub rise_starts : (table : List ℕ) (from many : ℕ) → RiseLeft table from many from 0
+pub rise_starts : (table : List ℕ) (from many : ℕ) → RiseLeft table from many 0
 rise_starts table from many = left_starts value_width from many (λ (p n : ℕ). rises most_conductors (values_from table p n))
 
-module _ (table : List ℕ) (from many at i : ℕ) (left : RiseLeft table from many at i) where
-  pub rise_ends : many ≤ i → true ≡ rises most_conductors (values_from table from many)
-  rise_ends h = no_values table at ∙ left_ends value_width from many _ _ at i left h
+module _ (table : List ℕ) (from many i : ℕ) (left : RiseLeft table from many i) where
+  abbrev value_place : ℕ
+  value_place = from + value_width * i
 
-  module _ (h : i < many) (goes : Bool) (told : goes ≡ goes_on most_conductors (values_from table at (many - i))) where
-    goes_here : goes ≡ goes_on most_conductors (values_from table at (suc (many - (i + 1))))
+  pub rise_ends : many ≤ i → true ≡ rises most_conductors (values_from table from many)
+  rise_ends h = no_values table value_place ∙ left_ends value_width from many _ _ i left h
+
+  module _ (h : i < many) (goes : Bool) (told : goes ≡ goes_on most_conductors (values_from table value_place (many - i))) where
+    goes_here : goes ≡ goes_on most_conductors (values_from table value_place (suc (many - (i + 1))))
     goes_here =
         let e : many - i ≡ suc (many - (i + 1)) = omega arith in
         rw e at told
 
     pub rise_refused : not goes ≡ true → false ≡ rises most_conductors (values_from table from many)
-    rise_refused e = sym (both_not_left _ _ (sym goes_here ∙ not-true goes e)) ∙ sym (values_cons table at (many - (i + 1))) ∙ left_here value_width from many _ _ at i left h
+    rise_refused e = sym (both_not_left _ _ (sym goes_here ∙ not-true goes e)) ∙ sym (values_cons table value_place (many - (i + 1))) ∙ left_here value_width from many _ _ i left h
 
-    pub rise_on : not goes ≡ false → RiseLeft table from many (at + value_width) (i + 1)
-    rise_on e = left_on value_width from many _ _ at i left h _ (sym (both_rest _ _ (sym goes_here ∙ not-false goes e)) ∙ sym (values_cons table at (many - (i + 1))) ∙ left_here value_width from many _ _ at i left h)
+    pub rise_on : not goes ≡ false → RiseLeft table from many (i + 1)
+    rise_on e = left_on value_width from many _ _ i left h _ (sym (both_rest _ _ (sym goes_here ∙ not-false goes e)) ∙ sym (values_cons table value_place (many - (i + 1))) ∙ left_here value_width from many _ _ i left h)
 
 -- ---- the records of a part
 
 -- the loop's invariant: after i records, the test of the rest gives the test of all
-pub record PartLeft (bytes : ℕ) (table : List ℕ) (v : View) (part at i : ℕ) : Type 0 where
+pub record PartLeft (bytes : ℕ) (table : List ℕ) (v : View) (part i : ℕ) : Type 0 where
   pub most : i ≤ count_of v part
-  pub place : at ≡ base_of v part + get_or widths part 0 * i
-  pub same : every (is_record bytes table v part) (places (get_or widths part 0) at (count_of v part - i)) ≡ are_records bytes table v part
+  pub same : every (is_record bytes table v part) (places (get_or widths part 0) (base_of v part + get_or widths part 0 * i) (count_of v part - i)) ≡ are_records bytes table v part
 
 module _ (bytes : ℕ) (table : List ℕ) (v : View) (part : ℕ) where
   abbrev test : ℕ → Bool
@@ -237,54 +243,47 @@ module _ (bytes : ℕ) (table : List ℕ) (v : View) (part : ℕ) where
   unfolding every places
   one_more at n = refl
 
-  pub part_starts : PartLeft bytes table v part (base_of v part) 0
+  pub part_starts : PartLeft bytes table v part 0
   unfolding are_records places_of
   part_starts =
-      let l : Left width (base_of v part) (count_of v part) (λ (p n : ℕ). every test (places width p n)) (are_records bytes table v part) (base_of v part) 0 =
+      let l : Left width (base_of v part) (count_of v part) (λ (p n : ℕ). every test (places width p n)) (are_records bytes table v part) 0 =
       left_starts width (base_of v part) (count_of v part) (λ (p n : ℕ). every test (places width p n)) in
-      record { most = l.most; place = l.place; same = l.same }
+      record { most = l.most; same = l.same }
 
-  module _ (at i : ℕ) (left : PartLeft bytes table v part at i) where
-    part_left : Left width (base_of v part) (count_of v part) (λ (p n : ℕ). every test (places width p n)) (are_records bytes table v part) at i
-    part_left = record { most = left.most; place = left.place; same = left.same }
+  module _ (i : ℕ) (left : PartLeft bytes table v part i) where
+    abbrev record_place : ℕ
+    record_place = base_of v part + width * i
+
+    part_left : Left width (base_of v part) (count_of v part) (λ (p n : ℕ). every test (places width p n)) (are_records bytes table v part) i
+    part_left = record { most = left.most; same = left.same }
 
     pub part_ends : count_of v part ≤ i → true ≡ are_records bytes table v part
-    part_ends h = none_left at ∙ left_ends width (base_of v part) (count_of v part) _ _ at i part_left h
+    part_ends h = none_left record_place ∙ left_ends width (base_of v part) (count_of v part) _ _ i part_left h
 
     -- the current record lies inside the table
     module _ (rooms : Rooms table v) (p : part < part_count) (h : i < count_of v part) where
-      reaches : at + width ≤ length table × width * i + width ≤ length table
+      reaches : record_place + width ≤ length table
       reaches =
-          let e : at ≡ base_of v part + width * i = left.place in
           let m : width * suc i ≤ width * count_of v part = mul-le-mul (le_refl width) h in
           let s : width * suc i ≡ width * i + width = mul-suc width i in
           let r : base_of v part + width * count_of v part ≤ length table = rooms.room part p in
-          (omega arith, omega arith)
+          omega arith
 
-      pub record_room : (blocks : List ℕ) → ValueReaches table v blocks → Rooms table v × ValueReaches table v blocks × (part < part_count) × (at + width ≤ length table)
-      record_room blocks known = (rooms, known, p, reaches.0)
+      pub record_room : (blocks : List ℕ) → ValueReaches table v blocks → Rooms table v × ValueReaches table v blocks × (part < part_count) × (record_place + width ≤ length table)
+      record_room blocks known = (rooms, known, p, reaches)
 
-      pub place_fits : length table * 8 < 2 ^ 63 → Fits w64 (at + width)
-      place_fits l = omega (arith, reaches.0)
-
-      pub index_fits : length table * 8 < 2 ^ 63 → Fits w64 (i + 1)
-      index_fits l =
-          let s : 1 ≤ width = widths_some part p in
-          let m : 1 * i ≤ width * i = mul-le-mul s (le_refl i) in
-          omega (arith, reaches.1)
-
-    module _ (h : i < count_of v part) (sound : Bool) (told : sound ≡ is_record bytes table v part at) where
-      part_here : both (test at) (every test (places width (at + width) (count_of v part - (i + 1)))) ≡ are_records bytes table v part
-      part_here = sym (one_more at (count_of v part - (i + 1))) ∙ left_here width (base_of v part) (count_of v part) _ _ at i part_left h
+    module _ (h : i < count_of v part) (sound : Bool) (told : sound ≡ is_record bytes table v part record_place) where
+      part_here : both (test record_place) (every test (places width (record_place + width) (count_of v part - (i + 1)))) ≡ are_records bytes table v part
+      part_here = sym (one_more record_place (count_of v part - (i + 1))) ∙ left_here width (base_of v part) (count_of v part) _ _ i part_left h
 
       pub part_refused : not sound ≡ true → false ≡ are_records bytes table v part
       part_refused e = sym (both_not_left _ _ (sym told ∙ not-true sound e)) ∙ part_here
 
-      pub part_on : not sound ≡ false → PartLeft bytes table v part (at + width) (i + 1)
+      pub part_on : not sound ≡ false → PartLeft bytes table v part (i + 1)
       part_on e =
-          let l : Left width (base_of v part) (count_of v part) (λ (p n : ℕ). every test (places width p n)) (are_records bytes table v part) (at + width) (i + 1) =
-          left_on width (base_of v part) (count_of v part) _ _ at i part_left h _ (sym (both_rest _ _ (sym told ∙ not-false sound e)) ∙ part_here) in
-          record { most = l.most; place = l.place; same = l.same }
+          let l : Left width (base_of v part) (count_of v part) (λ (p n : ℕ). every test (places width p n)) (are_records bytes table v part) (i + 1) =
+          left_on width (base_of v part) (count_of v part) _ _ i part_left h _ (sym (both_rest _ _ (sym told ∙ not-false sound e)) ∙ part_here) in
+          record { most = l.most; same = l.same }
 
 -- ---- the parts
 
@@ -329,24 +328,17 @@ module _ (bytes : ℕ) (table : List ℕ) (v : View) where
 
 -- ---- the words after the last part
 
-zeros_cons : (w : ℕ) (ws : List ℕ) → are_zeros (w ∷ ws) ≡ both (eqb w 0) (are_zeros ws)
+zeros_all : (ws : List ℕ) → All (λ w. w ≡ 0) ws → are_zeros ws ≡ true
 unfolding are_zeros every
-zeros_cons w ws = refl
+zeros_all [] h = refl
+zeros_all (w ∷ ws) h = both_true _ _ (eq-eqb w 0 (h 0 0 (omega arith))) (zeros_all ws (λ k d (l : k < length ws). h (suc k) d (omega arith)))
 
-no_words : true ≡ are_zeros []
+all_zeros : (ws : List ℕ) → are_zeros ws ≡ true → All (λ w. w ≡ 0) ws
 unfolding are_zeros every
-no_words = refl
+all_zeros [] e k d l = absurd (not-suc-le-zero l)
+all_zeros (w ∷ ws) e zero d l = eqb-true w 0 (both_first _ _ e)
+all_zeros (w ∷ ws) e (suc k) d l = all_zeros ws (both_second _ _ e) k d (le_of_suc-le-suc l)
 
-module _ (table : List ℕ) (i : ℕ) (whole : Bool) (left : are_zeros (drop i table) ≡ whole) where
-  pub zeros_end : length table ≤ i → true ≡ whole
-  zeros_end h = no_words ∙ ap are_zeros (sym (drop_of_length-le table h)) ∙ left
-
-  module _ (h : i < length table) where
-    zeros_here : both (eqb (get_or table i 0) 0) (are_zeros (drop (i + 1) table)) ≡ whole
-    zeros_here = rw (add-one i) (sym (zeros_cons _ _) ∙ ap are_zeros (sym (drop-cons table i 0 h)) ∙ left)
-
-    pub zeros_refused : (get_or table i 0 ≡ 0 → ⊥) → false ≡ whole
-    zeros_refused e = sym (both_not_left _ _ (ne_eqb _ _ e)) ∙ zeros_here
-
-    pub zeros_on : get_or table i 0 ≡ 0 → are_zeros (drop (i + 1) table) ≡ whole
-    zeros_on e = sym (both_rest _ _ (eq-eqb _ _ e)) ∙ zeros_here
+pub zeros_told : (zeros : Bool) (ws : List ℕ) → (IsTrue zeros ↔ All (λ w. w ≡ 0) ws) → zeros ≡ are_zeros ws
+zeros_told true ws h = sym (zeros_all ws (h.0 refl))
+zeros_told false ws h = by_cases _ (are_zeros ws) (λ (e : are_zeros ws ≡ true). h.1 (all_zeros ws e) ∙ sym e) (λ (e : are_zeros ws ≡ false). sym e)

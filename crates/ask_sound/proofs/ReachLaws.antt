@@ -220,15 +220,14 @@ module _ (table : List ℕ) (from count : ℕ) (blocks : List ℕ) where
 
 -- ---- a matrix's values: one by one to the next 64th
 
-module _ (table blocks : List ℕ) (base count first many at i : ℕ) (left : RiseLeft table (base + value_width * first) many at i) (h : i < many) (inside : first + many ≤ count) where
+module _ (table blocks : List ℕ) (base count first many i : ℕ) (left : RiseLeft table (base + value_width * first) many i) (h : i < many) (inside : first + many ≤ count) where
   pub rise_known : Reaches table base count blocks → (first + i) % block_values ≡ 0 → leb (many - i) (get_or blocks ((first + i) / block_values) 0) ≡ rises most_conductors (values_from table (base + value_width * first) many)
   rise_known known even =
       let e : block_values * ((first + i) / block_values) ≡ first + i = omega arith in
       let l : block_values * ((first + i) / block_values) < count = omega arith in
-      let p : at ≡ base + value_width * first + value_width * i = left.place in
-      let a : base + value_width * (first + i) ≡ at = omega arith in
+      let a : base + value_width * (first + i) ≡ base + value_width * first + value_width * i = omega arith in
       let n : many - i ≤ count - (first + i) = omega arith in
-      let b : get_or blocks ((first + i) / block_values) 0 ≡ reach most_conductors (values_from table at (count - (first + i))) =
+      let b : get_or blocks ((first + i) / block_values) 0 ≡ reach most_conductors (values_from table (base + value_width * first + value_width * i) (count - (first + i))) =
       known.told ((first + i) / block_values) l ∙ ap (reach_at table base count) e ∙ reach_is table base count (first + i)
       ∙ ap (λ (q : ℕ). reach most_conductors (values_from table q (count - (first + i)))) a in
-      ap (leb (many - i)) b ∙ sym (rises_reach table at (many - i) (count - (first + i)) n) ∙ left.same
+      ap (leb (many - i)) b ∙ sym (rises_reach table (base + value_width * first + value_width * i) (many - i) (count - (first + i)) n) ∙ left.same

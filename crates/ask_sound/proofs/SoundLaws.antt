@@ -11,12 +11,13 @@ use Rattle.ask_sound.specs.Way.Judging.{is_record, are_records, are_parts}
 use Rattle.table_record.specs.Way.Standing.{model_at, step_at, map_at, pin_at, section_at, matrix_at, value_at, base_of, count_of, places_of, kinds_at, methods_at, values_at, records_at, Rooms}
 use Rattle.table_record.specs.Records.{Records}
 use Rattle.base.specs.If.{provided◌then◌else◌, both}
-use Rattle.base.proofs.IfLaws.{if_true, if_false, by_test, both_rest, both_first, both_second, both_not_left, not_not_via}
+use Rattle.base.proofs.IfLaws.{if_true, if_false, by_test, both_rest, both_first, both_second, both_not_left}
 use Rattle.table_layout.specs.Layout.{models, steps, maps, pins, sections, matrices, values, part_count, value_width}
 use Rattle.table_layout.specs.Bounds.{most_values}
-use Rattle.table_layout.specs.View.{view_of, no_view}
+use Rattle.std.specs.Prelude.{Option, Some, None, is_some}
+use Rattle.table_layout.specs.View.{placed, view_of}
 use Rattle.table_layout.specs.declared.View.{View}
-use Rattle.table_layout.proofs.PartLaws.{no_view_fits}
+use Rattle.table_layout.proofs.PartLaws.{viewed, view_placed}
 use Rattle.ask_sound.specs.Sound.{
   every,
   is_model,
@@ -96,100 +97,87 @@ module _ (bytes : ℕ) (table : List ℕ) (v : View) where
 -- ---- the whole
 
 module _ (t table : List ℕ) where
-  sound_fits : is_sound t table ≡ true → (view_of table).fits ≡ true
+  pub known_some : is_sound t table ≡ true → is_some (view_of table) ≡ true
   unfolding is_sound
-  sound_fits e = both_first _ _ e
+  known_some e = both_first _ _ e
 
-  -- the view that is handed on fits exactly if the table is sound
-  pub view_sound : (sound_view t table).fits ≡ is_sound t table
+  -- a view is handed on exactly if the table is sound
+  told_some : is_some (sound_view t table) ≡ is_sound t table
   unfolding sound_view
-  view_sound =
-      by_test (λ (v : View). v.fits ≡ is_sound t table) (is_sound t table) (view_of table) no_view
-      (λ (e : is_sound t table ≡ true). sound_fits e ∙ sym e)
-      (λ (e : is_sound t table ≡ false). no_view_fits ∙ sym e)
+  told_some =
+      by_test (λ (o : Option View). is_some o ≡ is_sound t table) (is_sound t table) (view_of table) None
+      (λ (e : is_sound t table ≡ true). known_some e ∙ sym e)
+      (λ (e : is_sound t table ≡ false). sym e)
 
-  refused : is_sound t table ≡ false → (r : View) → r ≡ no_view → r ≡ sound_view t table
+  pub told_sound_by : (o : Option View) → o ≡ sound_view t table → is_some o ≡ is_sound t table
+  told_sound_by o is = ap is_some is ∙ told_some
+
+  pub told_unsound : None ≡ sound_view t table → is_sound t table ≡ false
+  told_unsound is = sym (told_sound_by None is)
+
+  refused : is_sound t table ≡ false → None ≡ sound_view t table
   unfolding sound_view
-  refused e r is = is ∙ sym (if_false _ _ e)
+  refused e = sym (if_false _ _ e)
 
 -- ---- what the view that is handed on tells
 
-module _ (t table : List ℕ) (v : View) (is : v ≡ sound_view t table) where
-  pub told_fits : v.fits ≡ is_sound t table
-  told_fits = ap (λ (w : View). w.fits) is ∙ view_sound t table
+module _ (t table : List ℕ) (v : View) (is : Some v ≡ sound_view t table) where
+  pub told_sound : is_sound t table ≡ true
+  told_sound = sym (told_sound_by t table (Some v) is)
 
-  pub told_unsound : not v.fits ≡ true → is_sound t table ≡ false
-  told_unsound e = sym told_fits ∙ not-true v.fits e
+  pub told_rooms : Rooms table v
+  unfolding sound_view
+  told_rooms = view_rooms table v (is ∙ if_true _ _ told_sound)
 
-  module _ (e : not v.fits ≡ false) where
-    pub told_sound : is_sound t table ≡ true
-    told_sound = sym told_fits ∙ not-false v.fits e
-
-    pub told_rooms : Rooms table v
-    unfolding sound_view
-    told_rooms = view_rooms table v (is ∙ if_true _ _ told_sound) (sound_fits t table told_sound)
-
-    pub told_records : SoundRecords table
-    unfolding is_sound
-    told_records = record { bytes = length t; sound = both_second _ _ (both_second _ _ told_sound) }
+  pub told_records : SoundRecords table
+  unfolding is_sound
+  told_records = record { bytes = length t; sound = both_second _ _ (both_second _ _ told_sound) }
 
 -- ---- the same for a table that is known to be sound
 
-module _ (t table : List ℕ) (sound : is_sound t table ≡ true) (v : View) where
-  pub known_view : v ≡ view_of table → v ≡ sound_view t table
-  unfolding sound_view
-  known_view e = e ∙ sym (if_true _ _ sound)
-
-  module _ (is : v ≡ sound_view t table) where
-    known_fits : not v.fits ≡ false
-    known_fits = not_not_via (told_fits t table v is ∙ sound)
-
-    pub known_rooms : Rooms table v
-    known_rooms = told_rooms t table v is known_fits
-
-    pub known_records : SoundRecords table
-    known_records = told_records t table v is known_fits
+pub known_view : (t table : List ℕ) → is_sound t table ≡ true → (v : View) → Some v ≡ view_of table → Some v ≡ sound_view t table
+unfolding sound_view
+known_view t table sound v e = e ∙ sym (if_true _ _ sound)
 
 -- ---- what is known at each `return`; v is the view of the table
 
-module _ (table : List ℕ) (v : View) (is_view : v ≡ view_of table) where
-  module _ (fits : not v.fits ≡ false) where
-    view_fits : (view_of table).fits ≡ true
-    view_fits = not-false _ (rw is_view at fits)
+pub sound_unfit : (t table : List ℕ) → None ≡ view_of table → None ≡ sound_view t table
+unfolding is_sound
+sound_unfit t table none = refused t table (both_not_left _ _ (sym (ap is_some none)))
 
-    pub sound_rooms : Rooms table v
-    sound_rooms = view_rooms table v is_view view_fits
+module _ (table : List ℕ) (v : View) (is_view : Some v ≡ view_of table) where
+  pub sound_rooms : Rooms table v
+  sound_rooms = view_rooms table v is_view
 
-    pub sound_value_room : base_of v values + value_width * count_of v values ≤ length table
-    sound_value_room = sound_rooms.value_room
+  pub sound_end : v.end ≤ length table
+  sound_end = (viewed table v is_view).ends
 
-    pub sound_few_values : count_of v values ≤ most_values
-    sound_few_values = sound_rooms.few_values
+  pub sound_value_room : base_of v values + value_width * count_of v values ≤ length table
+  sound_value_room = sound_rooms.value_room
 
-  module _ (t : List ℕ) (r : View) where
-    pub sound_unfit : not v.fits ≡ true → r ≡ no_view → r ≡ sound_view t table
+  pub sound_few_values : count_of v values ≤ most_values
+  sound_few_values = sound_rooms.few_values
+
+  module _ (t : List ℕ) (zeros : Bool) (told : zeros ≡ are_zeros (drop v.end table)) where
+    there : is_some (view_of table) ≡ true
+    there = sym (ap is_some is_view)
+
+    zeros_placed : zeros ≡ are_zeros (drop (placed table).end table)
+    zeros_placed = told ∙ ap (λ (w : View). are_zeros (drop w.end table)) (view_placed table v is_view)
+
+    pub sound_not_zero : not zeros ≡ true → None ≡ sound_view t table
     unfolding is_sound
-    sound_unfit e = refused t table (both_not_left _ _ (not-true _ (rw is_view at e))) r
+    sound_not_zero e = refused t table (both_rest _ _ there ∙ both_not_left _ _ (sym zeros_placed ∙ not-true zeros e))
 
-    module _ (fits : not v.fits ≡ false) (zeros : Bool) (told : zeros ≡ are_zeros (drop v.end table)) where
-      are_zeros_lem : zeros ≡ are_zeros (drop (view_of table).end table)
-      are_zeros_lem = rw is_view at told
-
-      pub sound_not_zero : not zeros ≡ true → r ≡ no_view → r ≡ sound_view t table
+    module _ (e : not zeros ≡ false) (sound : Bool) (is : sound ≡ are_parts (length t) table v 0 part_count) where
+      sound_is : sound ≡ is_sound t table
       unfolding is_sound
-      sound_not_zero e = refused t table (both_rest _ _ (view_fits fits) ∙ both_not_left _ _ (sym are_zeros_lem ∙ not-true zeros e)) r
+      sound_is =
+          is ∙ parts_sound (length t) table v ∙ ap (are_sound (length t)) sound_rooms.records
+          ∙ sym (both_rest _ _ there ∙ both_rest _ _ (sym zeros_placed ∙ not-false zeros e))
 
-      module _ (e : not zeros ≡ false) (sound : Bool) (is : sound ≡ are_parts (length t) table v 0 part_count) where
-        sound_is : sound ≡ is_sound t table
-        unfolding is_sound
-        sound_is =
-            let told_by_view : sound ≡ are_parts (length t) table (view_of table) 0 part_count = rw is_view at is in
-            told_by_view ∙ parts_sound (length t) table (view_of table) ∙ ap (are_sound (length t)) (view_rooms table (view_of table) refl (view_fits fits)).records
-            ∙ sym (both_rest _ _ (view_fits fits) ∙ both_rest _ _ (sym are_zeros_lem ∙ not-false zeros e))
+      pub sound_parts_fail : not sound ≡ true → None ≡ sound_view t table
+      sound_parts_fail n = refused t table (sym sound_is ∙ not-true sound n)
 
-        pub sound_parts_fail : not sound ≡ true → r ≡ no_view → r ≡ sound_view t table
-        sound_parts_fail n = refused t table (sym sound_is ∙ not-true sound n) r
-
-        pub sound_parts : not sound ≡ false → r ≡ v → r ≡ sound_view t table
-        unfolding sound_view
-        sound_parts n is_same = is_same ∙ is_view ∙ sym (if_true _ _ (sym sound_is ∙ not-false sound n))
+      pub sound_parts : not sound ≡ false → Some v ≡ sound_view t table
+      sound_parts n = known_view t table (sym sound_is ∙ not-false sound n) v is_view

@@ -1,7 +1,7 @@
 -- Document 01, "The table", from "Sound": what a table must be for a text, so that questions about it have answers.
 -- Every record is judged; lines are not. All sums are exact, none wraps.
 -- Assumes nothing.
-use Rattle.std.specs.Prelude.{ℕ, ◌+◌, ◌-◌, Bool, true, List, [], ◌∷◌, map, length, drop, get_or, leb, ltb, eqb}
+use Rattle.std.specs.Prelude.{Option, None, is_some, ℕ, ◌+◌, ◌-◌, Bool, true, List, [], ◌∷◌, map, length, drop, get_or, leb, ltb, eqb}
 use Rattle.table_record.specs.Records.{Records, records_of, range}
 use Rattle.table_record.specs.declared.Value.{Value}
 use Rattle.table_record.specs.declared.MatrixRecord.{MatrixRecord}
@@ -16,7 +16,7 @@ use Rattle.base.specs.If.{provided◌then◌else◌, both}
 use Rattle.base.specs.Bytes.{within}
 use Rattle.lex_number.specs.ValueWord.{is_value_word}
 use Rattle.doc.specs.Holds.{rises}
-use Rattle.table_layout.specs.View.{view_of, no_view}
+use Rattle.table_layout.specs.View.{placed, view_of}
 use Rattle.table_layout.specs.declared.View.{View}
 use Rattle.ask_sound.specs.Tests.{is_range, is_name_in, has_no_side, is_side, amount_fits, is_grid, is_bandwidth}
 
@@ -129,8 +129,8 @@ are_zeros words = every (λ (w : ℕ). eqb w 0) words
 -- "counts within bounds (matrices 1,024) and the table long enough, all words after zero"
 unfoldable pub is_sound : List ℕ → List ℕ → Bool
 is_sound t table =
-    both (view_of table).fits (both (are_zeros (drop (view_of table).end table)) (are_sound (length t) (records_of table)))
+    both (is_some (view_of table)) (both (are_zeros (drop (placed table).end table)) (are_sound (length t) (records_of table)))
 
--- the view of a sound table, so that questions need not take it again; of any other table, one that does not fit
-unfoldable pub sound_view : List ℕ → List ℕ → View
-sound_view t table = provided is_sound t table then view_of table else no_view
+-- the view of a sound table, so that questions need not take it again; of any other table, none
+unfoldable pub sound_view : List ℕ → List ℕ → Option View
+sound_view t table = provided is_sound t table then view_of table else None

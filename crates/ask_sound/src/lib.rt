@@ -1,17 +1,18 @@
 // Rule 30: whether a table is sound for a text, so that questions about it have answers.
 #![tactic(auto)]
 
-ghost use Rattle.std.specs.Prelude.{◌≡◌, true, ◌+◌, ◌-◌, ◌*◌, ◌≤◌, ◌<◌, length, drop, get_or};
+ghost use Rattle.std.specs.Prelude.{◌≡◌, true, ◌+◌, ◌-◌, ◌*◌, ◌≤◌, ◌<◌, ◌↔◌, IsTrue, length, drop, get_or};
+ghost use Rattle.std.specs.List.{All};
 ghost use Rattle.table_layout.specs.Layout.{widths, maps, pins, matrices, part_count, step_width, value_width};
 ghost use Rattle.table_layout.specs.Bounds.{deepest, most_conductors, most_values};
 ghost use Rattle.table_record.specs.Way.Standing.{count_of, kinds_from, values_from, kinds_at, methods_at, values_at, Rooms};
 ghost use Rattle.doc.specs.Holds.{is_in_upper_half, comes_before, rises};
-ghost use Rattle.ask_sound.specs.Sound.{depth_stays, depth_after, depth_holds, is_model, is_end, is_section_step, is_fork_step, is_step, is_map, is_pin, are_matrices, is_section, is_matrix, is_value, are_zeros, is_sound, sound_view};
+ghost use Rattle.ask_sound.specs.Sound.{depth_stays, depth_after, depth_holds, is_model, is_end, is_section_step, is_fork_step, is_step, is_map, is_pin, are_matrices, is_section, is_matrix, is_value, is_sound, sound_view};
 ghost use Rattle.ask_sound.specs.Way.Judging.{goes_on, reach, most_blocks, Reaches, ValueReaches, is_record, are_records, are_parts};
 
 use table_layout::View;
 use table_record::{
-    MapRecord, MatrixRecord, ModelRecord, PinRecord, SectionRecord, StepRecord, Value,
+    MapRecord, MatrixRecord, ModelRecord, PinRecord, SectionRecord, StepRecord, Value, Words,
 };
 
 pub mod record;
@@ -59,17 +60,12 @@ fn depth_holds(table: &[u64], from: usize, many: u64) -> bool
     ensures { result ≡ depth_holds 0 (kinds_from table.now from many) }
 {
     let mut depth = 0;
-    let mut at = from;
-    let mut i = 0;
-    while i < many {
-        let step = table_record::step_at(table, at);
-        let kind = step.kind;
-        if !depth_stays(depth, kind) {
+    for i in 0..many {
+        let step = StepRecord::at(table, from + table_layout::STEP_WIDTH * (i as usize));
+        if !depth_stays(depth, step.kind) {
             return false;
         }
-        depth = depth_after(depth, kind);
-        at += table_layout::STEP_WIDTH;
-        i += 1;
+        depth = depth_after(depth, step.kind);
     }
     depth == 0
 }
@@ -120,7 +116,7 @@ fn is_section_step(table: &[u64], view: View, step: StepRecord) -> bool
         return false;
     }
     let at = bases[table_layout::SECTIONS] + table_layout::SECTION_WIDTH * (target as usize);
-    let section = table_record::section_at(table, at);
+    let section = SectionRecord::at(table, at);
     if !record::amount_fits(section.method, step.amount) {
         return false;
     }
@@ -233,13 +229,7 @@ fn is_inside(value: Value) -> bool
 fn comes_before(value: Value, next: Value) -> bool
     ensures { result ≡ comes_before value next }
 {
-    if value.row < next.row {
-        return true;
-    }
-    if value.row != next.row {
-        return false;
-    }
-    value.column < next.column
+    value.row < next.row || value.row == next.row && value.column < next.column
 }
 
 // Whether the first of `many` values has a row and a column in bounds and comes before the second, if there is one.
@@ -247,17 +237,14 @@ fn goes_on(table: &[u64], at: usize, many: u64) -> bool
     requires { (at + value_width * many ≤ length table.now) × (1 ≤ many) }
     ensures { result ≡ goes_on most_conductors (values_from table.now at many) }
 {
-    let value = table_record::value_at(table, at);
+    let value = Value::at(table, at);
     if !is_inside(value) {
         return false;
     }
     if many == 1 {
         return true;
     }
-    comes_before(
-        value,
-        table_record::value_at(table, at + table_layout::VALUE_WIDTH),
-    )
+    comes_before(value, Value::at(table, at + table_layout::VALUE_WIDTH))
 }
 
 // The reach of the first of `many` values: how many of them rise from it on. `behind` is the reach of the second.
@@ -265,17 +252,14 @@ fn reach_on(table: &[u64], at: usize, many: u64, behind: u64) -> u64
     requires { (at + value_width * many ≤ length table.now) × (1 ≤ many) × (behind ≡ reach most_conductors (values_from table.now (at + value_width) (many - 1))) }
     ensures { result ≡ reach most_conductors (values_from table.now at many) }
 {
-    let value = table_record::value_at(table, at);
+    let value = Value::at(table, at);
     if !is_inside(value) {
         return 0;
     }
     if many == 1 {
         return 1;
     }
-    if !comes_before(
-        value,
-        table_record::value_at(table, at + table_layout::VALUE_WIDTH),
-    ) {
+    if !comes_before(value, Value::at(table, at + table_layout::VALUE_WIDTH)) {
         return 1;
     }
     behind + 1
@@ -287,9 +271,7 @@ fn find_reaches(table: &[u64], from: usize, count: u64, blocks: &mut [u64])
     ensures { Reaches table.now from count blocks.new }
 {
     let mut reach = 0;
-    let mut i = count;
-    while 0 < i {
-        i -= 1;
+    for i in (0..count).rev() {
         reach = reach_on(
             table,
             from + table_layout::VALUE_WIDTH * (i as usize),
@@ -313,18 +295,16 @@ fn values_rise(
     requires { Reaches table.now base count blocks.now × (base + value_width * count ≤ length table.now) × (count ≤ most_values) × (first + many ≤ count) }
     ensures { result ≡ rises most_conductors (values_from table.now (base + value_width * first) many) }
 {
-    let mut at = base + table_layout::VALUE_WIDTH * (first as usize);
-    let mut i = 0;
-    while i < many {
+    let from = base + table_layout::VALUE_WIDTH * (first as usize);
+    for i in 0..many {
         let place = first + i;
         if place % BLOCK == 0 {
             return many - i <= blocks[(place / BLOCK) as usize];
         }
+        let at = from + table_layout::VALUE_WIDTH * (i as usize);
         if !goes_on(table, at, many - i) {
             return false;
         }
-        at += table_layout::VALUE_WIDTH;
-        i += 1;
     }
     true
 }
@@ -372,30 +352,26 @@ fn is_record(bytes: u64, table: &[u64], blocks: &[u64], view: View, part: usize,
 {
     let counts = view.counts;
     if part == table_layout::MODELS {
-        return is_model(bytes, table, view, table_record::model_at(table, at));
+        return is_model(bytes, table, view, ModelRecord::at(table, at));
     }
     if part == table_layout::STEPS {
-        return is_step(bytes, table, view, table_record::step_at(table, at));
+        return is_step(bytes, table, view, StepRecord::at(table, at));
     }
     if part == table_layout::MAPS {
-        return is_map(
-            bytes,
-            counts[table_layout::PINS],
-            table_record::map_at(table, at),
-        );
+        return is_map(bytes, counts[table_layout::PINS], MapRecord::at(table, at));
     }
     if part == table_layout::PINS {
-        return is_pin(bytes, table_record::pin_at(table, at));
+        return is_pin(bytes, PinRecord::at(table, at));
     }
     if part == table_layout::SECTIONS {
-        let section = table_record::section_at(table, at);
+        let section = SectionRecord::at(table, at);
         return is_section(bytes, counts[table_layout::MATRICES], section);
     }
     if part == table_layout::MATRICES {
-        return is_matrix(table, blocks, view, table_record::matrix_at(table, at));
+        return is_matrix(table, blocks, view, MatrixRecord::at(table, at));
     }
     if part == table_layout::VALUES {
-        return is_value(table_record::value_at(table, at));
+        return is_value(Value::at(table, at));
     }
     true
 }
@@ -405,18 +381,13 @@ fn are_records(bytes: u64, table: &[u64], blocks: &[u64], view: View, part: usiz
     requires { Rooms table.now view × ValueReaches table.now view blocks.now × (part < part_count) }
     ensures { result ≡ are_records bytes table.now view part }
 {
-    let bases = view.bases;
-    let counts = view.counts;
-    let count = counts[part];
+    let base = view.bases[part];
     let width = table_layout::WIDTHS[part];
-    let mut at = bases[part];
-    let mut i = 0;
-    while i < count {
+    for i in 0..view.counts[part] {
+        let at = base + width * (i as usize);
         if !is_record(bytes, table, blocks, view, part, at) {
             return false;
         }
-        at += width;
-        i += 1;
     }
     true
 }
@@ -426,70 +397,55 @@ fn are_parts(bytes: u64, table: &[u64], blocks: &[u64], view: View) -> bool
     requires { Rooms table.now view × ValueReaches table.now view blocks.now }
     ensures { result ≡ are_parts bytes table.now view 0 part_count }
 {
-    let mut part = 0;
-    while part < table_layout::PARTS {
+    for part in 0..table_layout::PARTS {
         if !are_records(bytes, table, blocks, view, part) {
             return false;
         }
-        part += 1;
     }
     true
 }
 
 // Whether all words from `from` on are 0.
 fn zeros_from(table: &[u64], from: usize) -> bool
-    ensures { result ≡ are_zeros (drop from table.now) }
+    requires { from ≤ length table.now }
+    ensures { IsTrue result ↔ All (λ w. w ≡ 0) (drop from table.now) }
 {
-    let mut i = from;
-    while i < table.len() {
-        if table[i] != 0 {
-            return false;
-        }
-        i += 1;
-    }
-    true
+    table[from..].iter().all(|&word| word == 0)
 }
 
-// The view of a table that is sound for a text; it does not fit if the table is not. A question about such a table is
-// refused with 30.
-pub fn sound_view(text: &[u8], table: &[u64]) -> View
+// The view of a table that is sound for a text. A question about any other table is refused with 30.
+pub fn sound_view(text: &[u8], table: &[u64]) -> Option<View>
     ensures { result ≡ sound_view text.now table.now }
 {
-    let view = table_layout::view_of(table);
-    if !view.fits {
-        return table_layout::no_view();
-    }
+    let view = table_layout::view_of(table)?;
     if !zeros_from(table, view.end) {
-        return table_layout::no_view();
+        return None;
     }
-    let bases = view.bases;
-    let counts = view.counts;
     let mut blocks = [0; BLOCKS];
     find_reaches(
         table,
-        bases[table_layout::VALUES],
-        counts[table_layout::VALUES],
+        view.bases[table_layout::VALUES],
+        view.counts[table_layout::VALUES],
         &mut blocks,
     );
     if !are_parts(text.len() as u64, table, &blocks, view) {
-        return table_layout::no_view();
+        return None;
     }
-    view
+    Some(view)
 }
 
 // The view of a table that the caller knows to be sound for the text: the table is not judged. If it is not sound,
 // nothing is promised.
 pub fn view_unjudged(text: &[u8], table: &[u64]) -> View
     requires { is_sound text.now table.now ≡ true }
-    ensures { result ≡ sound_view text.now table.now }
+    ensures { Some result ≡ sound_view text.now table.now }
 {
-    table_layout::view_of(table)
+    table_layout::view_of(table).unwrap()
 }
 
 // Whether a table is sound for a text.
 pub fn is_sound(text: &[u8], table: &[u64]) -> bool
     ensures { result ≡ is_sound text.now table.now }
 {
-    let view = sound_view(text, table);
-    view.fits
+    sound_view(text, table).is_some()
 }

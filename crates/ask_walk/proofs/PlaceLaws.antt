@@ -55,63 +55,70 @@ count_few true n i h = omega arith
 count_few false n i h = omega arith
 
 -- the loop's invariant: after i of `many` steps, the counts so far and those of the rest are the counts of all
-pub record CountLeft (table : List ℕ) (from many opens closes at i : ℕ) : Type 0 where
+pub record CountLeft (table : List ℕ) (from many opens closes i : ℕ) : Type 0 where
   pub most : i ≤ many
-  pub place : at ≡ from + step_width * i
   pub few_opens : opens ≤ i
   pub few_closes : closes ≤ i
-  pub opened : opens + count_kind fork_kind (kinds_from table at (many - i)) ≡ count_kind fork_kind (kinds_from table from many)
-  pub closed : closes + count_kind endfork_kind (kinds_from table at (many - i)) ≡ count_kind endfork_kind (kinds_from table from many)
+  pub opened : opens + count_kind fork_kind (kinds_from table (from + step_width * i) (many - i)) ≡ count_kind fork_kind (kinds_from table from many)
+  pub closed : closes + count_kind endfork_kind (kinds_from table (from + step_width * i) (many - i)) ≡ count_kind endfork_kind (kinds_from table from many)
 
-pub count_starts : (table : List ℕ) (from many : ℕ) → CountLeft table from many 0 0 from 0
+pub count_starts : (table : List ℕ) (from many : ℕ) → CountLeft table from many 0 0 0
 count_starts table from many =
     record {
       most = zero-le;
-      place = omega arith;
       few_opens = zero-le;
       few_closes = zero-le;
       opened = whole fork_kind;
       closed = whole endfork_kind;
     }
   where
-    whole : (kind : ℕ) → 0 + count_kind kind (kinds_from table from (many - 0)) ≡ count_kind kind (kinds_from table from many)
-    whole kind = zero-add _ ∙ ap (λ (n : ℕ). count_kind kind (kinds_from table from n)) (sub-zero many)
+    first : from + step_width * 0 ≡ from
+    first = omega arith
 
-module _ (table : List ℕ) (from many opens closes at i : ℕ) (left : CountLeft table from many opens closes at i) where
+    whole : (kind : ℕ) → 0 + count_kind kind (kinds_from table (from + step_width * 0) (many - 0)) ≡ count_kind kind (kinds_from table from many)
+    whole kind = zero-add _ ∙ (λ i. count_kind kind (kinds_from table (first i) (sub-zero many i)))
+
+module _ (table : List ℕ) (from many opens closes i : ℕ) (left : CountLeft table from many opens closes i) where
+  -- the current step's place, and that of the next one
+  abbrev here_at : ℕ
+  here_at = from + step_width * i
+
+  next_at : from + step_width * (i + 1) ≡ here_at + step_width
+  next_at = omega arith
+
   moved :
-      (kind n : ℕ) → i < many → n + count_kind kind (kinds_from table at (many - i)) ≡ count_kind kind (kinds_from table from many) →
-      (provided eqb (step_at table at).kind kind then n + 1 else n) + count_kind kind (kinds_from table (at + step_width) (many - (i + 1))) ≡ count_kind kind (kinds_from table from many)
+      (kind n : ℕ) → i < many → n + count_kind kind (kinds_from table here_at (many - i)) ≡ count_kind kind (kinds_from table from many) →
+      (provided eqb (step_at table here_at).kind kind then n + 1 else n) + count_kind kind (kinds_from table (from + step_width * (i + 1)) (many - (i + 1))) ≡ count_kind kind (kinds_from table from many)
   moved kind n h e =
       let s : many - i ≡ suc (many - (i + 1)) = omega arith in
-      let f : n + count_kind kind (kinds_from table at (suc (many - (i + 1)))) ≡ count_kind kind (kinds_from table from many) = rw s at e in
-      count_moves (eqb (step_at table at).kind kind) n _ ∙ ap (λ (k : ℕ). n + k) (sym (one_counted kind table at (many - (i + 1)))) ∙ f
+      let f : n + count_kind kind (kinds_from table here_at (suc (many - (i + 1)))) ≡ count_kind kind (kinds_from table from many) = rw s at e in
+      ap (λ (q : ℕ). (provided eqb (step_at table here_at).kind kind then n + 1 else n) + count_kind kind (kinds_from table q (many - (i + 1)))) next_at
+      ∙ count_moves (eqb (step_at table here_at).kind kind) n _ ∙ ap (λ (k : ℕ). n + k) (sym (one_counted kind table here_at (many - (i + 1)))) ∙ f
 
   pub count_on :
-      i < many → (s : StepRecord) → s ≡ step_at table at → (opened_now closed_now : ℕ) → opened_now ≡ (provided eqb s.kind fork_kind then opens + 1 else opens) →
+      i < many → (s : StepRecord) → s ≡ step_at table here_at → (opened_now closed_now : ℕ) → opened_now ≡ (provided eqb s.kind fork_kind then opens + 1 else opens) →
       closed_now ≡ (provided eqb s.kind endfork_kind then closes + 1 else closes) →
-      CountLeft table from many opened_now closed_now (at + step_width) (i + 1)
+      CountLeft table from many opened_now closed_now (i + 1)
   count_on h s here opened_now closed_now by_step also =
-      let o : opened_now ≡ (provided eqb (step_at table at).kind fork_kind then opens + 1 else opens) =
+      let o : opened_now ≡ (provided eqb (step_at table here_at).kind fork_kind then opens + 1 else opens) =
       by_step ∙ ap (λ (x : StepRecord). provided eqb x.kind fork_kind then opens + 1 else opens) here in
-      let c : closed_now ≡ (provided eqb (step_at table at).kind endfork_kind then closes + 1 else closes) =
+      let c : closed_now ≡ (provided eqb (step_at table here_at).kind endfork_kind then closes + 1 else closes) =
       also ∙ ap (λ (x : StepRecord). provided eqb x.kind endfork_kind then closes + 1 else closes) here in
-      let p : at ≡ from + step_width * i = left.place in
       rw (o, c)
       (record {
         most = omega arith;
-        place = omega arith;
-        few_opens = count_few (eqb (step_at table at).kind fork_kind) opens i left.few_opens;
-        few_closes = count_few (eqb (step_at table at).kind endfork_kind) closes i left.few_closes;
+        few_opens = count_few (eqb (step_at table here_at).kind fork_kind) opens i left.few_opens;
+        few_closes = count_few (eqb (step_at table here_at).kind endfork_kind) closes i left.few_closes;
         opened = moved fork_kind opens h left.opened;
         closed = moved endfork_kind closes h left.closed;
       })
 
   module _ (h : many ≤ i) where
-    all_counted : (kind n : ℕ) → n + count_kind kind (kinds_from table at (many - i)) ≡ count_kind kind (kinds_from table from many) → n ≡ count_kind kind (kinds_from table from many)
+    all_counted : (kind n : ℕ) → n + count_kind kind (kinds_from table here_at (many - i)) ≡ count_kind kind (kinds_from table from many) → n ≡ count_kind kind (kinds_from table from many)
     all_counted kind n e =
         let s : many - i ≡ 0 = omega arith in
-        let f : n + count_kind kind (kinds_from table at 0) ≡ count_kind kind (kinds_from table from many) = rw s at e in
-        sym (ap (λ (k : ℕ). n + k) (none_counted kind table at) ∙ add-zero n) ∙ f
+        let f : n + count_kind kind (kinds_from table here_at 0) ≡ count_kind kind (kinds_from table from many) = rw s at e in
+        sym (ap (λ (k : ℕ). n + k) (none_counted kind table here_at) ∙ add-zero n) ∙ f
 
     depth_is : (depth : ℕ) → eqb (depth + closes) opens ≡ is_depth depth (kinds_from table from many)
     unfolding is_depth

@@ -8,12 +8,12 @@ use lib.ListN.{get_or}
 use borrow.Author.Tests.{eq-eqb, ne_eqb, not-false}
 use Rattle.base.specs.Refusal as refusal
 use Rattle.base.proofs.IfLaws.{if_true, if_false, not_via, not_not_via}
-use Rattle.table_layout.specs.declared.View.{View}
 use Rattle.table_record.specs.declared.StepRecord.{StepRecord}
 use Rattle.table_record.specs.declared.ModelRecord.{ModelRecord}
 use Rattle.table_record.specs.Records.{Records, records_of, no_step}
+use Rattle.std.specs.Prelude.{None}
 use Rattle.ask_sound.specs.Sound.{depth_after, is_sound, sound_view}
-use Rattle.ask_sound.proofs.SoundLaws.{told_unsound, told_sound}
+use Rattle.ask_sound.proofs.SoundLaws.{told_unsound}
 use Rattle.ask_walk.specs.declared.Place.{Place}
 use Rattle.ask_walk.specs.Walk.{WalkWords, stepped, done_at, walk_refused, model_at_place, step_at_place, is_place, next_of, walk_over, walk_on, walk_from, walk_answer}
 
@@ -60,11 +60,11 @@ pub walk_known : (t table : List ℕ) (p : Place) → is_sound t table ≡ true 
 unfolding walk_answer walk_from
 walk_known t table p sound there answer f = f ∙ sym (if_false _ _ (not_not_via sound) ∙ if_false _ _ (not_not_via there))
 
-module _ (t table : List ℕ) (p : Place) (v : View) (told : v ≡ sound_view t table) where
-  pub walk_unsound : not v.fits ≡ true → walk_refused refusal.table ≡ walk_answer t table p
+module _ (t table : List ℕ) (p : Place) where
+  pub walk_unsound : None ≡ sound_view t table → walk_refused refusal.table ≡ walk_answer t table p
   unfolding walk_answer
-  walk_unsound e = sym (if_true _ _ (not_via (told_unsound t table v told e)))
+  walk_unsound none = sym (if_true _ _ (not_via (told_unsound t table none)))
 
-  pub walk_sound : not v.fits ≡ false → (answer : WalkWords) → answer ≡ walk_from (records_of table) p → answer ≡ walk_answer t table p
+  pub walk_sound : is_sound t table ≡ true → (answer : WalkWords) → answer ≡ walk_from (records_of table) p → answer ≡ walk_answer t table p
   unfolding walk_answer
-  walk_sound e answer f = f ∙ sym (if_false _ _ (not_not_via (told_sound t table v told e)))
+  walk_sound sound answer f = f ∙ sym (if_false _ _ (not_not_via sound))

@@ -12,7 +12,7 @@ ghost use Rattle.ask_sound.specs.Way.Judged.{SoundRecords};
 ghost use Rattle.ask_walk.specs.Walk.{walk_words, is_depth, is_place, next_of, walk_over, walk_on, walk_from, walk_answer};
 
 use table_layout::View;
-use table_record::StepRecord;
+use table_record::{ModelRecord, StepRecord, Words};
 
 // "A walk place is model, step, depth".
 #[derive(Clone, Copy)]
@@ -73,14 +73,10 @@ fn is_depth(table: &[u64], from: usize, many: u64, depth: u64) -> bool
 {
     let mut opens = 0;
     let mut closes = 0;
-    let mut at = from;
-    let mut i = 0;
-    while i < many {
-        let step = table_record::step_at(table, at);
+    for i in 0..many {
+        let step = StepRecord::at(table, from + table_layout::STEP_WIDTH * (i as usize));
         opens = counted(opens, step.kind, table_layout::code::FORK);
         closes = counted(closes, step.kind, table_layout::code::ENDFORK);
-        at += table_layout::STEP_WIDTH;
-        i += 1;
     }
     if opens < closes {
         return false;
@@ -97,7 +93,7 @@ fn is_place(table: &[u64], view: View, place: Place) -> bool
     if counts[table_layout::MODELS] <= place.model {
         return false;
     }
-    let model = table_record::nth_model(table, view, place.model);
+    let model = table_record::nth::<ModelRecord>(table, view, place.model);
     if model.steps < place.step {
         return false;
     }
@@ -112,12 +108,12 @@ fn walk_on(table: &[u64], view: View, place: Place) -> Walked
     requires { Rooms table.now view × SoundRecords table.now × (is_place (records_of table.now) place ≡ true) }
     ensures { walk_words result ≡ walk_on (records_of table.now) place }
 {
-    let model = table_record::nth_model(table, view, place.model);
+    let model = table_record::nth::<ModelRecord>(table, view, place.model);
     if place.step == model.steps {
         return Walked::Done(place);
     }
     let index = model.first + place.step;
-    walk_over(table_record::nth_step(table, view, index), place)
+    walk_over(table_record::nth::<StepRecord>(table, view, index), place)
 }
 
 // One step in a sound table, from any place.
@@ -136,10 +132,9 @@ impl Place {
     pub fn step(self, text: &[u8], table: &[u64]) -> Walked
         ensures { walk_words result ≡ walk_answer text.now table.now self }
     {
-        let view = ask_sound::sound_view(text, table);
-        if !view.fits {
+        let Some(view) = ask_sound::sound_view(text, table) else {
             return Walked::Refused(base::refusal::TABLE);
-        }
+        };
         walk_in(table, view, self)
     }
 

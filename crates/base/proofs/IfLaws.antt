@@ -1,7 +1,7 @@
 -- Laws of the conditional, of `both` and of `either`. The rule set `ifs` proves most small predicates.
 -- Assumes nothing.
 use mathlib.Core.Path.{◌≡◌, refl, sym, ◌∙◌, ap}
-use mathlib.Core.Bool.{Bool, true, false, not, true≢false}
+use mathlib.Core.Bool.{Bool, true, false, not, true≢false, ◌&&◌, ◌||◌}
 use Prim.Native.Nat.{ℕ, ◌≤◌, ◌<◌}
 use lib.Dec.{leb, ltb, eqb}
 use borrow.Author.Tests.{le-leb, lt-leb, eq-eqb, ne_eqb, lt-ltb, le-ltb, not-true, not-false}
@@ -30,6 +30,17 @@ pub both_assoc : (a b c : Bool) → both (both a b) c ≡ both a (both b c)
 unfolding both
 both_assoc true b c = refl
 both_assoc false b c = refl
+
+-- the same as the operators of the library
+pub both_and : (a b : Bool) → both a b ≡ (a && b)
+unfolding both
+both_and true b = refl
+both_and false b = refl
+
+pub either_or : (a b : Bool) → either a b ≡ (a || b)
+unfolding either
+either_or true b = refl
+either_or false b = refl
 
 pub both_true : (a b : Bool) → a ≡ true → b ≡ true → both a b ≡ true
 unfolding both

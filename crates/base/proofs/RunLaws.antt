@@ -1,7 +1,7 @@
 -- Laws of runs: the three that a loop over bytes needs (go on, stop, past the end), and which bytes are in a run.
 -- Assumes nothing.
 use mathlib.Core.Path.{◌≡◌, refl, sym, ◌∙◌, ap}
-use mathlib.Core.Bool.{Bool, true, false, not, true≢false}
+use mathlib.Core.Bool.{Bool, true, false, not, true≢false, ◌&&◌}
 use mathlib.Core.List.{List, [], ◌∷◌, ◌++◌}
 use Prim.Native.Nat.{ℕ, zero, suc, ◌+◌, ◌-◌, ◌*◌, ◌^◌, ◌≤◌, ◌<◌, zero-le, suc-le-suc}
 use mir.Syntax.{w64}
@@ -15,8 +15,10 @@ use lib.Dec.{eqb}
 use borrow.Author.Tests.{eqb-true, eq-eqb, ne_eqb, not-true, not-false}
 use Rattle.base.specs.If.{provided◌then◌else◌, both}
 use Rattle.base.specs.Runs.{run, all, same}
-use Rattle.base.specs.Way.Class.{run_end}
-use Rattle.base.proofs.IfLaws.{if_true, if_false, by_test, by_cases, both_true, both_not_left, both_not_right, both_rest, both_first, both_second, both_assoc}
+use Rattle.std.specs.Bool.{MatchBool}
+use Rattle.std.specs.List.{AllWithin, HoldsAt}
+use Rattle.base.specs.Way.Class.{run_end, RunsOn}
+use Rattle.base.proofs.IfLaws.{if_true, if_false, by_test, by_cases, both_true, both_not_left, both_not_right, both_rest, both_first, both_second, both_assoc, both_and}
 
 pub run_cons : (p : ℕ → Bool) (b : ℕ) (s : List ℕ) → run p (b ∷ s) ≡ (provided p b then suc (run p s) else zero)
 unfolding run
@@ -31,6 +33,9 @@ run_goes p b s e = run_cons p b s ∙ if_true _ _ e
 
 pub run_stops : (p : ℕ → Bool) (b : ℕ) (s : List ℕ) → p b ≡ false → run p (b ∷ s) ≡ 0
 run_stops p b s e = run_cons p b s ∙ if_false _ _ e
+
+pub run_goes_on : (p : ℕ → Bool) (b : ℕ) (s : List ℕ) → p b ≡ true → run p (b ∷ s) ≡ run p s + 1
+run_goes_on p b s e = rw (add-one) (run_goes p b s e)
 
 module _ (p : ℕ → Bool) (s : List ℕ) (i : ℕ) where
   pub run_on : i < length s → p (get_or s i 0) ≡ true → run p (drop i s) ≡ suc (run p (drop (i + 1) s))
@@ -223,30 +228,6 @@ same_longer [] (c ∷ t) h = refl
 same_longer (b ∷ s) [] h = refl
 same_longer (b ∷ s) (c ∷ t) h = both_not_right _ _ (same_longer s t (λ (e : length s ≡ length t). h (ap suc e)))
 
--- the invariant of a loop that has found equal bytes before i: the rests compare as the whole lists do
-module _ (s t : List ℕ) (i : ℕ) (answer : Bool) (inv : same (drop i s) (drop i t) ≡ answer) (long : length s ≡ length t) where
-  pub same_on : i < length s → get_or s i 0 ≡ get_or t i 0 → same (drop (i + 1) s) (drop (i + 1) t) ≡ answer
-  same_on h e =
-      let g : i < length t = omega arith in
-      let k : same (get_or s i 0 ∷ drop (suc i) s) (get_or t i 0 ∷ drop (suc i) t) ≡ answer = rw (drop-cons s i 0 h, drop-cons t i 0 g) at inv in
-      rw (add-one) (sym (both_rest _ _ (eq-eqb _ _ e)) ∙ sym (same_cons _ _ _ _) ∙ k)
-
-  pub same_stop : i < length s → (get_or s i 0 ≡ get_or t i 0 → ⊥) → false ≡ answer
-  same_stop h e =
-      let g : i < length t = omega arith in
-      let k : same (get_or s i 0 ∷ drop (suc i) s) (get_or t i 0 ∷ drop (suc i) t) ≡ answer = rw (drop-cons s i 0 h, drop-cons t i 0 g) at inv in
-      sym (both_not_left _ _ (ne_eqb _ _ e)) ∙ sym (same_cons _ _ _ _) ∙ k
-
-  pub same_past : length s ≤ i → true ≡ answer
-  same_past h =
-      let g : length t ≤ i = omega arith in
-      let k : same [] [] ≡ answer = rw (drop_of_length-le s h, drop_of_length-le t g) at inv in
-      sym same_nil ∙ k
-
--- past the end there is no byte
-pub none_past : (s : List ℕ) (i : ℕ) → length s ≤ i → 0 ≡ get_or s i 0
-none_past s i h = sym (get_or-eq_default s 0 h)
-
 -- ---- from run to run: the result of `skip` is within the list, and the position after it is further on
 
 module _ (p : ℕ → Bool) (s : List ℕ) (at end : ℕ) (within : at < length s) (told : end ≡ run_end p s at) where
@@ -262,9 +243,6 @@ module _ (p : ℕ → Bool) (s : List ℕ) (at end : ℕ) (within : at < length 
   pub next_fits : length s * 1 < 2 ^ 63 → Fits w64 (end + 1)
   next_fits h = omega (arith, run_ends)
 
-  pub next_less : length s - (end + 1) < length s - at
-  next_less = omega (arith, run_starts)
-
 -- ---- blocks: several bytes tested at once
 
 -- if the first n bytes all pass, the run goes on after them
@@ -275,41 +253,40 @@ run_block p (suc n) (b ∷ x) h e =
     let f : both (p b) (all p (take n x)) ≡ true = rw (all_cons p b (take n x)) at e in
     rw (suc-add) (run_goes p b x (both_first _ _ f) ∙ ap suc (run_block p n x (le_of_suc-le-suc h) (both_second _ _ f)))
 
--- the invariant of a loop over blocks: from its position i the run ends at `end`
-pub block_on : (p : ℕ → Bool) (s : List ℕ) (n i last end : ℕ) (t : Bool) → last + n ≡ length s → i ≤ last → t ≡ all p (take n (drop i s)) → not t ≡ false → run_end p s i ≡ end → run_end p s (i + n) ≡ end
-block_on p s n i last end t room h told e inv =
-    let l : length (drop i s) ≡ length s - i = length-drop i s in
-    let g : n ≤ length (drop i s) = omega arith in
-    let k : run p (drop i s) ≡ n + run p (drop n (drop i s)) = run_block p n (drop i s) g (sym told ∙ not-false t e) in
-    let d : drop n (drop i s) ≡ drop (i + n) s = drop-drop n i s in
-    let m : run p (drop i s) ≡ n + run p (drop (i + n) s) = rw d at k in
-    omega arith
-
--- the invariant of a loop within a block: `whole` says whether the bytes before i pass; those from i to `end` are left
-module _ (p : ℕ → Bool) (s : List ℕ) (n from i end : ℕ) (whole goal : Bool) (room : from + n ≤ length s) (is : end ≡ from + n) (inv : both whole (all p (take (end - i) (drop i s))) ≡ goal) (g : i < end) where
-  block_next : both whole (both (p (get_or s i 0)) (all p (take (end - (i + 1)) (drop (i + 1) s)))) ≡ goal
-  block_next =
-      let h : i < length s = omega arith in
-      let d : drop i s ≡ get_or s i 0 ∷ drop (suc i) s = drop-cons s i 0 h in
-      let left : end - i ≡ suc (end - suc i) = omega arith in
-      let k : both whole (all p (take (suc (end - suc i)) (get_or s i 0 ∷ drop (suc i) s))) ≡ goal = rw (left, d) at inv in
-      rw (add-one i) (rw (all_cons p (get_or s i 0) (take (end - suc i) (drop (suc i) s))) at k)
-
-  pub block_goes : (t next : Bool) → t ≡ p (get_or s i 0) → next ≡ both whole t → both next (all p (take (end - (i + 1)) (drop (i + 1) s))) ≡ goal
-  block_goes t next told e = rw (e, told) (both_assoc whole _ _ ∙ block_next)
-
 both_last : (a : Bool) → a ≡ both a true
 unfolding both
 both_last true = refl
 both_last false = refl
 
-pub block_start : (p : ℕ → Bool) (s : List ℕ) (n from end : ℕ) → end ≡ from + n → both true (all p (take (end - from) (drop from s))) ≡ all p (take n (drop from s))
-block_start p s n from end e =
-    let left : end - from ≡ n = omega arith in
-    both_rest true _ refl ∙ ap (λ (k : ℕ). all p (take k (drop from s))) left
+-- the invariant of a loop that tests each byte: what it has found and the bytes that are left give the whole
+module _ (p : ℕ → Bool) (s : List ℕ) (i : ℕ) (whole goal : Bool) (inv : both whole (all p (drop i s)) ≡ goal) where
+  pub tested_goes : (t : Bool) → i < length s → t ≡ p (get_or s i 0) → both (whole && t) (all p (drop (i + 1) s)) ≡ goal
+  tested_goes t h told =
+      let d : all p (drop i s) ≡ both (p (get_or s i 0)) (all p (drop (suc i) s)) = rw (drop-cons s i 0 h) (all_cons p (get_or s i 0) (drop (suc i) s)) in
+      rw (add-one i, sym (both_and whole t), told) (both_assoc whole (p (get_or s i 0)) (all p (drop (suc i) s)) ∙ rw d at inv)
 
-pub block_done : (p : ℕ → Bool) (s : List ℕ) (i end : ℕ) (whole goal : Bool) → both whole (all p (take (end - i) (drop i s))) ≡ goal → end ≤ i → whole ≡ goal
-block_done p s i end whole goal inv h =
-    let n : end - i ≡ 0 = omega arith in
-    let k : both whole true ≡ goal = rw (n, all_nil p) at inv in
-    both_last whole ∙ k
+  pub tested_done : length s ≤ i → whole ≡ goal
+  tested_done h = both_last whole ∙ rw (drop_of_length-le s h, all_nil p) at inv
+
+-- what a search for the first byte that fails tells of all bytes
+pub all_told : (p : ℕ → Bool) (s : List ℕ) → ((k : ℕ) → k < length s → p (get_or s k 0) ≡ true) → all p s ≡ true
+all_told p s pass = run_whole p s (run_is p s (length s) (le_refl (length s)) pass (λ (h : length s < length s). absurd (omega arith)))
+
+pub all_fails : (p : ℕ → Bool) (s : List ℕ) (k : ℕ) → k < length s → p (get_or s k 0) ≡ false → all p s ≡ false
+all_fails p s k h e =
+    by_cases (all p s ≡ false) (all p s)
+    (λ (f : all p s ≡ true). let r : run p s ≡ length s = all_run p s f in absurd (true≢false (sym (run_all p s k (rw r h)) ∙ e)))
+    (λ (f : all p s ≡ false). f)
+
+pub all_by_cases : (p : ℕ → Bool) (s : List ℕ) (r : Bool) → MatchBool r (AllWithin (λ (b : ℕ). p b ≡ true) s 0 (length s)) ((k : ℕ) × (k < length s) × HoldsAt (λ (b : ℕ). p b ≡ false) s k) → r ≡ all p s
+all_by_cases p s true told = sym (all_told p s (λ (k : ℕ) (h : k < length s). told k 0 zero-le h))
+all_by_cases p s false told = sym (all_fails p s told.0 told.1 (told.2 0))
+
+-- behind a block that passes the run goes on
+pub runs_block : (p : ℕ → Bool) (n : ℕ) (s rest block behind : List ℕ) → RunsOn p s rest → n ≤ length rest → block ≡ take n rest → behind ≡ drop n rest → all p block ≡ true → RunsOn p s behind
+runs_block p n s rest block behind on room is_block is_behind e =
+    let k : run p rest ≡ n + run p (drop n rest) = run_block p n rest room (rw is_block at e) in
+    let l : length (drop n rest) ≡ length rest - n = length-drop n rest in
+    let place : length s - length rest + n ≡ length s - length (drop n rest) = omega (arith, on.inside) in
+    let d : drop n rest ≡ drop (length s - length (drop n rest)) s = ap (drop n) on.ends ∙ drop-drop n (length s - length rest) s ∙ ap (λ (i : ℕ). drop i s) place in
+    rw is_behind (record { inside = omega (arith, on.inside); ends = d; reaches = omega (arith, on.inside, on.reaches) })

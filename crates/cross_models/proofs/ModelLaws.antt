@@ -19,6 +19,7 @@ use Rattle.base.proofs.IfLaws.{if_true, if_false, by_cases, either_none_first, e
 use Rattle.base.proofs.RunLaws.{same_refl, same_equal}
 use Rattle.base.proofs.BrokenLaws.{first_broken_lem, first_kept}
 use Rattle.table_layout.specs.Layout.{models, steps, maps, model_width}
+use Rattle.std.specs.Prelude.{Some}
 use Rattle.table_layout.specs.View.{view_of}
 use Rattle.table_layout.specs.declared.View.{View}
 use Rattle.table_record.specs.Records.{records_of, range, no_model}
@@ -196,7 +197,7 @@ module _ (d : Document) (before : List Model) (m : Model) (behind : List Model) 
   unfolding owner_at
   owner_many = many_is_here
 
-module _ (t table : List ℕ) (filled : HoldsText t table) (v : View) (is_view : v ≡ view_of table) (before : List Model) (m : Model) (behind : List Model)
+module _ (t table : List ℕ) (filled : HoldsText t table) (v : View) (is_view : Some v ≡ view_of table) (before : List Model) (m : Model) (behind : List Model)
     (split : (document_of t).models ≡ before ++ (m ∷ behind)) (h : length before < count_of v models) where
   abbrev d : Document
   d = document_of t

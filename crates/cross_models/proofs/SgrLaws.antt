@@ -39,22 +39,20 @@ module _ (m : StagedModel) where
 
 -- ---- one model after another
 
-pub record SgrLeft (models : List ℕ) (count i from : ℕ) : Type 0 where
+pub record SgrLeft (models : List ℕ) (count i : ℕ) : Type 0 where
   pub within : i ≤ count
-  pub from_is : from ≡ staged_model_width * i
   pub same :
       first_sgr (staged_from (staged_model_at models) staged_model_width i (count - i))
       ≡ first_sgr (staged_from (staged_model_at models) staged_model_width 0 count)
 
-pub sgr_start : (models : List ℕ) (count : ℕ) → SgrLeft models count 0 0
+pub sgr_start : (models : List ℕ) (count : ℕ) → SgrLeft models count 0
 sgr_start models count =
     record {
       within = omega arith;
-      from_is = omega arith;
       same = ap (λ (n : ℕ). first_sgr (staged_from (staged_model_at models) staged_model_width 0 n)) (sub-zero count);
     }
 
-module _ (models : List ℕ) (count i from : ℕ) (left : SgrLeft models count i from) where
+module _ (models : List ℕ) (count i : ℕ) (left : SgrLeft models count i) where
   pub sgr_end : count ≤ i → record { rule = 0; line = 0 } ≡ first_sgr (staged_from (staged_model_at models) staged_model_width 0 count)
   unfolding first_sgr staged_from no_finding
   sgr_end h =
@@ -62,12 +60,10 @@ module _ (models : List ℕ) (count i from : ℕ) (left : SgrLeft models count i
       rw z at left.same
 
   module _ (h : i < count) where
-    pub sgr_inside : staged_model_width * count ≤ length models → from + staged_model_width ≤ length models
-    sgr_inside k =
-        let e : from ≡ staged_model_width * i = left.from_is in
-        omega arith
+    pub sgr_inside : staged_model_width * count ≤ length models → staged_model_width * i + staged_model_width ≤ length models
+    sgr_inside k = omega arith
 
-    module _ (m : StagedModel) (is_m : m ≡ staged_model_at models from) (wrong : Bool) (is_wrong : wrong ≡ is_wrong_sgr m) where
+    module _ (m : StagedModel) (is_m : m ≡ staged_model_at models (staged_model_width * i)) (wrong : Bool) (is_wrong : wrong ≡ is_wrong_sgr m) where
       abbrev behind : List StagedModel
       behind = staged_from (staged_model_at models) staged_model_width (i + 1) (count - (i + 1))
 
@@ -77,18 +73,17 @@ module _ (models : List ℕ) (count i from : ℕ) (left : SgrLeft models count i
           let n : count - i ≡ suc (count - (i + 1)) = omega arith in
           sym
           (ap (λ (k : ℕ). first_sgr (staged_from (staged_model_at models) staged_model_width i k)) n
-          ∙ ap (λ (x : StagedModel). first_sgr (x ∷ behind)) (sym (is_m ∙ ap (staged_model_at models) left.from_is)))
+          ∙ ap (λ (x : StagedModel). first_sgr (x ∷ behind)) (sym is_m))
           ∙ left.same
 
       pub sgr_breaks : wrong ≡ true → record { rule = refusal.sgr; line = m.sgr } ≡ first_sgr (staged_from (staged_model_at models) staged_model_width 0 count)
       unfolding first_sgr
       sgr_breaks e = sym (if_true _ _ (sym is_wrong ∙ e)) ∙ here
 
-      pub sgr_on : wrong ≡ false → SgrLeft models count (i + 1) (from + staged_model_width)
+      pub sgr_on : wrong ≡ false → SgrLeft models count (i + 1)
       unfolding first_sgr
       sgr_on e =
-          let f : from ≡ staged_model_width * i = left.from_is in
-          record { within = omega arith; from_is = omega arith; same = sym (if_false _ _ (sym is_wrong ∙ e)) ∙ here }
+          record { within = omega arith; same = sym (if_false _ _ (sym is_wrong ∙ e)) ∙ here }
 
 -- ---- the document
 

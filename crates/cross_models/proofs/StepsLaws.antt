@@ -15,6 +15,7 @@ use Rattle.cross_rules.specs.Way.Findings.{model_rule, step_rule, step_findings,
 use Rattle.table_layout.specs.Codes.{section_kind}
 use Rattle.table_layout.specs.Bounds.{most_steps}
 use Rattle.table_layout.specs.Layout.{models, steps}
+use Rattle.std.specs.Prelude.{Some}
 use Rattle.table_layout.specs.View.{view_of}
 use Rattle.table_layout.specs.declared.View.{View}
 use Rattle.table_record.specs.Records.{records_of, range, no_step}
@@ -131,7 +132,7 @@ pub record StepsLeft (t table : List ℕ) (v : View) (marks : List ℕ) (index :
   pub same :
       first_in (rest (document_of t) split.one below split.behind) ≡ first_in (below_first (document_of t) (drop index (document_of t).models))
 
-module _ (t table : List ℕ) (filled : HoldsText t table) (v : View) (is_view : v ≡ view_of table) where
+module _ (t table : List ℕ) (filled : HoldsText t table) (v : View) (is_view : Some v ≡ view_of table) where
   abbrev doc : Document
   doc = document_of t
 

@@ -10,6 +10,7 @@ use mir.Val.{Fits}
 use lib.ListN.{length, drop, get_or, drop_of_length-le}
 use Rattle.cross_rules.specs.Way.Findings.{model_rule, model_findings}
 use Rattle.table_layout.specs.Layout.{models}
+use Rattle.std.specs.Prelude.{Some}
 use Rattle.table_layout.specs.View.{view_of}
 use Rattle.table_layout.specs.declared.View.{View}
 use Rattle.table_record.specs.Way.Standing.{count_of}
@@ -37,7 +38,7 @@ pub record ModelsLeft (t marks : List ℕ) (i : ℕ) : Type 0 where
 pub models_start : (t marks : List ℕ) → length marks ≡ marks_many → ModelsLeft t marks 0
 models_start t marks whole = record { same = refl; whole = whole }
 
-module _ (t table : List ℕ) (filled : HoldsText t table) (v : View) (is_view : v ≡ view_of table) (marks : List ℕ) (i : ℕ) (left : ModelsLeft t marks i) where
+module _ (t table : List ℕ) (filled : HoldsText t table) (v : View) (is_view : Some v ≡ view_of table) (marks : List ℕ) (i : ℕ) (left : ModelsLeft t marks i) where
   abbrev d : Document
   d = document_of t
 

@@ -19,7 +19,8 @@ ghost use Rattle.cross_models.specs.Way.Models.{ModelRoom, mult_at, owner_at, mo
 use cross_rules::Finding;
 use cross_steps::Owner;
 use table_layout::View;
-use table_record::stage::StagedModel;
+use table_record::stage::{StagedModel, StagedStep};
+use table_record::{ModelRecord, StepRecord, Words};
 
 // A mark that is the number of no model.
 const UNMARKED: u8 = table_layout::bound::MODELS as u8;
@@ -29,10 +30,7 @@ fn is_mult(steps: &[u64], index: u64) -> bool
     requires { staged_step_width * index + staged_step_width ≤ length steps.now }
     ensures { result ≡ mult_at steps.now index }
 {
-    let step = table_record::stage::step_at(
-        steps,
-        table_record::stage::STEP_WIDTH * (index as usize),
-    );
+    let step = StagedStep::at(steps, table_record::stage::STEP_WIDTH * (index as usize));
     step.mult == 1
 }
 
@@ -72,7 +70,7 @@ fn owner_of(table: &[u64], view: View, index: u64) -> Owner
     ensures { result ≡ owner_at (records_of table.now) index }
 {
     let counts = view.counts;
-    let model = table_record::nth_model(table, view, index);
+    let model = table_record::nth::<ModelRecord>(table, view, index);
     let maps = counts[table_layout::MAPS];
     Owner {
         kind: model.kind,
@@ -92,15 +90,14 @@ fn steps_finding(
     marks: &mut [u8; table_name::MARKS],
     index: u64,
 ) -> Finding
-    requires { HoldsText text.now table.now × (view ≡ view_of table.now) × StepsStaged text.now steps.now × (index < length (document_of text.now).models) × (length marks.old ≡ marks_many) }
+    requires { HoldsText text.now table.now × (Some view ≡ view_of table.now) × StepsStaged text.now steps.now × (index < length (document_of text.now).models) × (length marks.old ≡ marks_many) }
     ensures { StepsTold text.now index result × (result.rule ≡ 0 → length marks.new ≡ marks_many) }
 {
     let owner = owner_of(table, view, index);
     let count = owner.many;
-    let mut i = 0;
-    while i < count {
+    for i in 0..count {
         let here = owner.from + i;
-        let own = table_record::nth_step(table, view, here);
+        let own = table_record::nth::<StepRecord>(table, view, here);
         let mult = is_mult(steps, here);
         let rule = cross_steps::step_rule(text, table, view, marks, owner, own, i, mult);
         if rule != 0 {
@@ -109,7 +106,6 @@ fn steps_finding(
                 line: own.line,
             };
         }
-        i += 1;
     }
     Finding { rule: 0, line: 0 }
 }
@@ -125,14 +121,12 @@ pub fn model_finding(
     steps: &[u64],
     listed: [bool; cross_names::list::FLAGS],
 ) -> Finding
-    requires { HoldsText text.now table.now × (view ≡ view_of table.now) × StepsStaged text.now steps.now × Listed (document_of text.now) listed }
+    requires { HoldsText text.now table.now × (Some view ≡ view_of table.now) × StepsStaged text.now steps.now × Listed (document_of text.now) listed }
     ensures { result ≡ first_in (model_findings (document_of text.now) (document_of text.now).models) }
 {
-    let counts = view.counts;
-    let count = counts[table_layout::MODELS];
+    let count = view.counts[table_layout::MODELS];
     let mut marks = [UNMARKED; table_name::MARKS];
-    let mut i = 0;
-    while i < count {
+    for i in 0..count {
         let rule = model_rule(text, table, view, listed, i);
         if rule != 0 {
             return Finding {
@@ -144,7 +138,6 @@ pub fn model_finding(
         if found.rule != 0 {
             return found;
         }
-        i += 1;
     }
     Finding { rule: 0, line: 0 }
 }
@@ -167,18 +160,15 @@ pub fn sgr_finding(models: &[u64], count: u64) -> Finding
     requires { staged_model_width * count ≤ length models.now }
     ensures { result ≡ first_sgr (staged_from (staged_model_at models.now) staged_model_width 0 count) }
 {
-    let mut i = 0;
-    let mut from = 0;
-    while i < count {
-        let staged = table_record::stage::model_at(models, from);
+    for i in 0..count {
+        let from = table_record::stage::MODEL_WIDTH * (i as usize);
+        let staged = StagedModel::at(models, from);
         if is_wrong_sgr(staged) {
             return Finding {
                 rule: base::refusal::SGR,
                 line: staged.sgr,
             };
         }
-        i += 1;
-        from += table_record::stage::MODEL_WIDTH;
     }
     Finding { rule: 0, line: 0 }
 }

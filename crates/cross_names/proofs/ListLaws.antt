@@ -21,6 +21,7 @@ use Rattle.line_place.specs.Place as place
 use Rattle.base.specs.Refusal as refusal
 use Rattle.table_layout.specs.Layout.{models}
 use Rattle.table_layout.specs.Bounds.{most_models}
+use Rattle.std.specs.Prelude.{Some}
 use Rattle.table_layout.specs.View.{view_of}
 use Rattle.table_layout.specs.declared.View.{View}
 use Rattle.table_record.specs.Way.Standing.{count_of, Rooms}
@@ -339,7 +340,7 @@ module _ (t : List ℕ) (listed : List Bool) (c : Cursor) (left : ListLeft t lis
       unfolding listed_at stands_in key_of
       listed_is = ap (λ (k : ℕ). provided both (eqb p place.list) (eqb k plain) then name ∷ [] else []) (sym found.key_is)
 
-      module _ (table : List ℕ) (filled : HoldsText t table) (v : View) (is_view : v ≡ view_of table) where
+      module _ (table : List ℕ) (filled : HoldsText t table) (v : View) (is_view : Some v ≡ view_of table) where
         abbrev count : ℕ
         count = count_of v models
 

@@ -16,6 +16,7 @@ use Rattle.base.proofs.IfLaws.{by_cases}
 use Rattle.base.proofs.BrokenLaws.{first_broken_lem, first_kept}
 use Rattle.base.specs.Refusal as refusal
 use Rattle.table_layout.specs.Layout.{maps, pins, map_width}
+use Rattle.std.specs.Prelude.{Some}
 use Rattle.table_layout.specs.View.{view_of}
 use Rattle.table_layout.specs.declared.View.{View}
 use Rattle.table_record.specs.Records.{records_of, no_map}
@@ -97,7 +98,7 @@ findings_on : (d : Document) (m : Map) (ms : List Map) → map_findings d (m ∷
 unfolding map_findings
 findings_on d m ms = refl
 
-module _ (t table : List ℕ) (filled : HoldsText t table) (v : View) (is_view : v ≡ view_of table) (i : ℕ) (left : MapsLeft t i) where
+module _ (t table : List ℕ) (filled : HoldsText t table) (v : View) (is_view : Some v ≡ view_of table) (i : ℕ) (left : MapsLeft t i) where
   abbrev d : Document
   d = document_of t
 

@@ -17,6 +17,7 @@ use Rattle.base.proofs.RunLaws.{same_refl, same_equal}
 use Rattle.lex_line.specs.Words.{Word, words_from}
 use Rattle.base.specs.Refusal as refusal
 use Rattle.table_layout.specs.Layout.{models, model_width}
+use Rattle.std.specs.Prelude.{Some}
 use Rattle.table_layout.specs.View.{view_of}
 use Rattle.table_layout.specs.declared.View.{View}
 use Rattle.table_record.specs.Way.Standing.{places, base_of, count_of}
@@ -123,7 +124,7 @@ module _ {A B : Type 0} (test : B → Bool) (f : A → B) where
   index_map [] = refl
   index_map (x ∷ xs) = λ i. provided test (f x) then zero else suc (index_map xs i)
 
-module _ (t table : List ℕ) (filled : HoldsText t table) (v : View) (is_view : v ≡ view_of table) where
+module _ (t table : List ℕ) (filled : HoldsText t table) (v : View) (is_view : Some v ≡ view_of table) where
   abbrev d : Document
   d = document_of t
 

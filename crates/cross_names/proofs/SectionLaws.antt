@@ -15,6 +15,7 @@ use Rattle.base.specs.Broken.{◌when◌, first_broken}
 use Rattle.base.specs.Refusal as refusal
 use Rattle.table_layout.specs.Codes.{section_kind}
 use Rattle.table_layout.specs.Layout.{sections, section_width}
+use Rattle.std.specs.Prelude.{Some}
 use Rattle.table_layout.specs.View.{view_of}
 use Rattle.table_layout.specs.declared.View.{View}
 use Rattle.table_record.specs.Records.{Records, records_of}
@@ -93,7 +94,7 @@ finding_on : (d : Document) (i : ℕ) (x : Section) (xs : List Section) → sect
 unfolding section_findings
 finding_on d i x xs = refl
 
-module _ (t table : List ℕ) (filled : HoldsText t table) (v : View) (is_view : v ≡ view_of table) where
+module _ (t table : List ℕ) (filled : HoldsText t table) (v : View) (is_view : Some v ≡ view_of table) where
   abbrev d : Document
   d = document_of t
 

@@ -12,6 +12,7 @@ use Rattle.cross_rules.specs.Way.Findings.{map_name_rule, pin_name_rule, pin_fin
 use Rattle.base.specs.Broken.{◌when◌, first_broken}
 use Rattle.base.specs.Refusal as refusal
 use Rattle.table_layout.specs.Layout.{maps, pins, map_width, pin_width}
+use Rattle.std.specs.Prelude.{Some}
 use Rattle.table_layout.specs.View.{view_of}
 use Rattle.table_layout.specs.declared.View.{View}
 use Rattle.table_record.specs.Records.{Records, records_of, range, no_map}
@@ -83,7 +84,7 @@ record_here first (y ∷ above) below m =
     let e : first + length y.pins + length (pins_of above) ≡ first + length (y.pins ++ pins_of above) = omega arith in
     record_here (first + length y.pins) above below m ∙ ap (λ (k : ℕ). map_record k m) e
 
-module _ (t table : List ℕ) (filled : HoldsText t table) (v : View) (is_view : v ≡ view_of table) where
+module _ (t table : List ℕ) (filled : HoldsText t table) (v : View) (is_view : Some v ≡ view_of table) where
   abbrev d : Document
   d = document_of t
 

@@ -128,7 +128,7 @@ fn judge_line(
 // Goes through the list lines from `start` on, up to the first that breaks a rule. Each line before it sets the flag of
 // another model, so no more than FLAGS lines are judged.
 pub fn list_finding(text: &[u8], table: &[u64], view: View, start: Cursor) -> ListFinding
-    requires { HoldsText text.now table.now × (view ≡ view_of table.now) × ListsFrom text.now start }
+    requires { HoldsText text.now table.now × (Some view ≡ view_of table.now) × ListsFrom text.now start }
     ensures { (record { rule = result.rule; line = result.line } ≡ first_in (list_findings (document_of text.now))) × (result.rule ≡ 0 → Listed (document_of text.now) result.listed) }
 {
     let mut listed = [false; FLAGS];

@@ -33,8 +33,7 @@ fn pin_finding(
     requires { (base + pin_width * count ≤ length table.now) × (first + count ≤ most_pins) × (length marks.old ≡ marks_many) }
     ensures { (result ≡ first_in (pins_from text.now table.now base first 0 count)) × (length marks.new ≡ marks_many) }
 {
-    let mut i = 0;
-    while i < count {
+    for i in 0..count {
         if cross_rules::is_repeated_marked(
             text,
             table,
@@ -49,7 +48,6 @@ fn pin_finding(
                 line: cross_rules::nth_line(text, table_layout::PINS, first + i),
             };
         }
-        i += 1;
     }
     Finding { rule: 0, line: 0 }
 }
@@ -74,28 +72,25 @@ fn own_finding(
 
 // The first line that breaks rule 19: a map with the name of an earlier map, or a pin with the name of an earlier pin of its map.
 pub fn map_finding(text: &[u8], table: &[u64], view: View) -> Finding
-    requires { HoldsText text.now table.now × (view ≡ view_of table.now) }
+    requires { HoldsText text.now table.now × (Some view ≡ view_of table.now) }
     ensures { result ≡ first_in (map_findings (document_of text.now) (document_of text.now).maps) }
 {
     let bases = view.bases;
-    let counts = view.counts;
     let base = bases[table_layout::MAPS];
-    let count = counts[table_layout::MAPS];
+    let count = view.counts[table_layout::MAPS];
     let mut marks = [UNMARKED; table_name::MARKS];
-    let mut i = 0;
-    while i < count {
+    for i in 0..count {
         if cross_rules::is_repeated_name(text, table, base, table_layout::MAP_WIDTH, i) {
             return Finding {
                 rule: base::refusal::TWICE,
                 line: cross_rules::nth_line(text, table_layout::MAPS, i),
             };
         }
-        let map = table_record::nth_map(table, view, i);
+        let map = table_record::nth::<MapRecord>(table, view, i);
         let found = own_finding(text, table, view, &mut marks, i as u8, map);
         if found.rule != 0 {
             return found;
         }
-        i += 1;
     }
     Finding { rule: 0, line: 0 }
 }

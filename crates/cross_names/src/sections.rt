@@ -39,14 +39,11 @@ fn used_sections(table: &[u64], view: View) -> [bool; FLAGS]
     requires { Rooms table.now view }
     ensures { Flags result (records_of table.now).steps }
 {
-    let counts = view.counts;
-    let count = counts[table_layout::STEPS];
+    let count = view.counts[table_layout::STEPS];
     let mut used = [false; FLAGS];
-    let mut i = 0;
-    while i < count {
-        let slot = slot_of(table_record::nth_step(table, view, i));
+    for i in 0..count {
+        let slot = slot_of(table_record::nth::<StepRecord>(table, view, i));
         used[slot] = true;
-        i += 1;
     }
     used
 }
@@ -75,14 +72,12 @@ fn section_rule(text: &[u8], table: &[u64], view: View, index: u64, used: [bool;
 
 // The first section that breaks a rule.
 pub fn section_finding(text: &[u8], table: &[u64], view: View) -> Finding
-    requires { HoldsText text.now table.now × (view ≡ view_of table.now) }
+    requires { HoldsText text.now table.now × (Some view ≡ view_of table.now) }
     ensures { result ≡ first_in (section_findings (document_of text.now) 0 (document_of text.now).sections) }
 {
-    let counts = view.counts;
     let used = used_sections(table, view);
-    let count = counts[table_layout::SECTIONS];
-    let mut i = 0;
-    while i < count {
+    let count = view.counts[table_layout::SECTIONS];
+    for i in 0..count {
         let rule = section_rule(text, table, view, i, used);
         if rule != 0 {
             return Finding {
@@ -90,7 +85,6 @@ pub fn section_finding(text: &[u8], table: &[u64], view: View) -> Finding
                 line: cross_rules::nth_line(text, table_layout::SECTIONS, i),
             };
         }
-        i += 1;
     }
     Finding { rule: 0, line: 0 }
 }

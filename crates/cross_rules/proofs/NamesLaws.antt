@@ -16,6 +16,7 @@ use Rattle.base.specs.Runs.{same}
 use Rattle.base.proofs.IfLaws.{by_cases}
 use Rattle.lex_line.specs.Words.{Word}
 use Rattle.table_layout.specs.Layout.{models, maps, sections, model_width, map_width, section_width}
+use Rattle.std.specs.Prelude.{Some}
 use Rattle.table_layout.specs.View.{view_of}
 use Rattle.table_layout.specs.declared.View.{View}
 use Rattle.table_record.specs.Way.Standing.{places, model_at, map_at, section_at, base_of, count_of}
@@ -161,7 +162,7 @@ module _ (t : List ℕ) where
 
 -- ---- in the table of a text
 
-module _ (t table : List ℕ) (filled : HoldsText t table) (v : View) (is_view : v ≡ view_of table) where
+module _ (t table : List ℕ) (filled : HoldsText t table) (v : View) (is_view : Some v ≡ view_of table) where
   abbrev d : Document
   d = document_of t
 

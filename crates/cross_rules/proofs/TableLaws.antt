@@ -17,7 +17,8 @@ use Rattle.doc.specs.Way.Holds.{counts_of}
 use Rattle.table_record.proofs.BackLaws.{records_wide, records_back}
 use Rattle.doc.proofs.CountLaws.{counts_agree, counts_bounded}
 use Rattle.doc.proofs.CountLaws as long
-use Rattle.table_layout.specs.View.{view_of}
+use Rattle.std.specs.Prelude.{Some}
+use Rattle.table_layout.specs.View.{placed, view_of}
 use Rattle.table_layout.specs.declared.View.{View}
 use Rattle.table_layout.proofs.LaidLaws.{AllFew, all_few, laid_view}
 use Rattle.cross_rules.specs.Way.HoldsText.{HoldsText}
@@ -39,7 +40,7 @@ module _ (t table : List ℕ) (filled : HoldsText t table) where
   unfolding parts_of
   parts_few = all_few bounds parts refl (λ (p : ℕ). rw (part_count p) (counts_bounded t c filled.reads p))
 
-  pub view_fits : (view_of table).fits ≡ true
+  pub view_fits : view_of table ≡ Some (placed table)
   unfolding table_of
   view_fits = rw filled.words (laid_view parts (replicate (length table - length (table_of t)) 0) (records_wide (flatten (document_of t))) parts_few)
 
@@ -48,12 +49,12 @@ module _ (t table : List ℕ) (filled : HoldsText t table) where
   text_records = ap records_of filled.words ∙ records_back (flatten (document_of t)) (length table - length (table_of t))
 
   -- the records of each part, where the view locates them, and how many they are
-  module _ (v : View) (is_view : v ≡ view_of table) where
+  module _ (v : View) (is_view : Some v ≡ view_of table) where
     abbrev d : Document
     d = document_of t
 
     pub text_rooms : Rooms table v
-    text_rooms = view_rooms table v is_view view_fits
+    text_rooms = view_rooms table v is_view
 
     records_here : records_at table v ≡ flatten d
     records_here = text_rooms.records ∙ text_records

@@ -18,6 +18,7 @@ use Rattle.base.specs.Refusal as refusal
 use Rattle.base.proofs.IfLaws.{if_true, if_false, by_cases, both_rest, both_not_left, both_not_right}
 use Rattle.table_layout.specs.Codes.{end_kind, section_kind, mlm, lumped, distributed}
 use Rattle.table_layout.specs.Layout.{sections}
+use Rattle.std.specs.Prelude.{Some}
 use Rattle.table_layout.specs.View.{view_of}
 use Rattle.table_layout.specs.declared.View.{View}
 use Rattle.table_record.specs.Records.{Records, range, no_step}
@@ -219,7 +220,7 @@ module _ (d : Document) where
 
 -- ---- what the code requires of the table
 
-module _ (t table : List ℕ) (filled : HoldsText t table) (v : View) (is_view : v ≡ view_of table) where
+module _ (t table : List ℕ) (filled : HoldsText t table) (v : View) (is_view : Some v ≡ view_of table) where
   right : Each RightSection (document_of t).sections
   right = text_sections t filled.counts filled.reads
 

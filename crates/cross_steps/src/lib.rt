@@ -9,7 +9,7 @@ ghost use Rattle.cross_steps.specs.Way.StepWords.{StepRooms, clashing, meeting, 
 ghost use Rattle.cross_steps.specs.Way.Marks.{mark_of, is_marked, MarkedEnds, Below, Judged};
 
 use table_layout::View;
-use table_record::{SectionRecord, StepRecord};
+use table_record::{MapRecord, MatrixRecord, SectionRecord, StepRecord};
 
 // What the rules of a step need to know of its model: the model's type, the index of its first step, how many steps it has,
 // the map of its first end (the number of maps if there is none), and the stamp in the marks of its ends.
@@ -64,13 +64,11 @@ fn is_clashing(
     requires { Rooms table.now view × (from + above ≤ count_of view steps) }
     ensures { result ≡ meets_above text.now own (range from above (records_of table.now).steps) }
 {
-    let mut i = 0;
-    while i < above {
-        let other = table_record::nth_step(table, view, from + i);
+    for i in 0..above {
+        let other = table_record::nth::<StepRecord>(table, view, from + i);
         if meets(text, other, own) {
             return true;
         }
-        i += 1;
     }
     false
 }
@@ -134,13 +132,11 @@ pub fn first_target(table: &[u64], view: View, none: u64, from: u64, count: u64)
     requires { Rooms table.now view × (from + count ≤ count_of view steps) }
     ensures { result ≡ first_target none (range from count (records_of table.now).steps) }
 {
-    let mut i = 0;
-    while i < count {
-        let step = table_record::nth_step(table, view, from + i);
+    for i in 0..count {
+        let step = table_record::nth::<StepRecord>(table, view, from + i);
         if step.kind == table_layout::code::END {
             return step.target;
         }
-        i += 1;
     }
     none
 }
@@ -154,7 +150,7 @@ fn differs(table: &[u64], view: View, first: u64, many: u64) -> bool
     if counts[table_layout::MAPS] <= first {
         return false;
     }
-    let map = table_record::nth_map(table, view, first);
+    let map = table_record::nth::<MapRecord>(table, view, first);
     many != map.pins
 }
 
@@ -196,7 +192,10 @@ fn first_matrix(table: &[u64], view: View, index: u64) -> u64
     if counts[table_layout::SECTIONS] <= index {
         return counts[table_layout::MATRICES];
     }
-    base::minus(least(table_record::nth_section(table, view, index)), 1)
+    base::minus(
+        least(table_record::nth::<SectionRecord>(table, view, index)),
+        1,
+    )
 }
 
 // Whether one of `count` matrices from matrix `from` on is not a Diagonal_matrix.
@@ -204,13 +203,11 @@ fn is_other_in(table: &[u64], view: View, from: u64, count: u64) -> bool
     requires { Rooms table.now view × (from + count ≤ count_of view matrices) }
     ensures { result ≡ other_in (range from count (records_of table.now).matrices) }
 {
-    let mut i = 0;
-    while i < count {
-        let matrix = table_record::nth_matrix(table, view, from + i);
+    for i in 0..count {
+        let matrix = table_record::nth::<MatrixRecord>(table, view, from + i);
         if matrix.form != table_layout::code::DIAGONAL {
             return true;
         }
-        i += 1;
     }
     false
 }
@@ -267,7 +264,7 @@ fn end_rule(
     if is_met(text, table, view, marks, owner, own, above) {
         return base::refusal::SIDE;
     }
-    let map = table_record::nth_map(table, view, own.target);
+    let map = table_record::nth::<MapRecord>(table, view, own.target);
     if differs(table, view, owner.first, map.pins) {
         return base::refusal::COUNT;
     }
@@ -282,7 +279,7 @@ fn section_rule(table: &[u64], view: View, owner: Owner, own: StepRecord, mult: 
     if counts[table_layout::SECTIONS] <= own.target {
         return base::refusal::NOSECTION;
     }
-    let section = table_record::nth_section(table, view, own.target);
+    let section = table_record::nth::<SectionRecord>(table, view, own.target);
     if is_wrong_method(mult, section.method) {
         return base::refusal::METHOD;
     }

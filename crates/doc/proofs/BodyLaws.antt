@@ -1,6 +1,7 @@
 -- A matrix as the forward reading reaches it: what a line in the place of a matrix does if it breaks no rule, and so
 -- what the lines from a state on are, up to the end of the section.
 -- Assumes nothing.
+use Rattle.std.proofs.Common.{is_some, unwrap_or}
 use Prim.Native.Nat.{ℕ, ◌+◌, ◌≤◌}
 use mathlib.Core.Path.{◌≡◌, refl, sym, ◌∙◌, ap}
 use mathlib.Core.Bool.{true, false, true≢false}
@@ -136,27 +137,27 @@ module _ (k : ℕ) (argument : List ℕ) (s : State) (kept : keyword_rule k argu
 
 -- [Row]
 module _ (argument : List ℕ) (s : State) (kept : keyword_rule row argument s ≡ 0) (p : s.place ≡ place.matrix) where
-  row_formed : (whole_of argument).formed ≡ true
+  row_formed : is_some (whole_of argument) ≡ true
   unfolding is_bad_integer is_row_or_bandwidth either both
   row_formed = not-false _ (keyword_integer row argument s kept)
 
-  row_within : within 1 most_conductors (whole_of argument).value ≡ true
+  row_within : within 1 most_conductors (unwrap_or (whole_of argument) 0) ≡ true
   unfolding is_out_of_bounds provided◌then◌else◌
   row_within = sym (whole_within 1 most_conductors (whole_of argument) row_formed) ∙ not-false _ (keyword_bounds row argument s kept)
 
-  row_right : is_wrong_row (whole_of argument).value s.matrix ≡ false
+  row_right : is_wrong_row (unwrap_or (whole_of argument) 0) s.matrix ≡ false
   unfolding is_wrong_in_matrix is_row_or_bandwidth either provided◌then◌else◌
   row_right = sym (both_rest _ _ row_formed) ∙ inside_kept row argument s kept p refl
 
-  pub row_follows : Follows s.matrix (whole_of argument).value
+  pub row_follows : Follows s.matrix (unwrap_or (whole_of argument) 0)
   unfolding within
   row_follows =
-      row_told s.matrix (whole_of argument).value row_right (leb-true _ _ (both_first _ _ row_within))
+      row_told s.matrix (unwrap_or (whole_of argument) 0) row_right (leb-true _ _ (both_first _ _ row_within))
       (leb-true _ _ (both_second _ _ row_within))
 
 -- [Bandwidth]
 module _ (argument : List ℕ) (s : State) (kept : keyword_rule bandwidth argument s ≡ 0) (p : s.place ≡ place.matrix) where
-  width_most : (whole_of argument).value ≤ most_bandwidth
+  width_most : unwrap_or (whole_of argument) 0 ≤ most_bandwidth
   unfolding is_out_of_bounds provided◌then◌else◌
   width_most = ltb-false _ _ (keyword_bounds bandwidth argument s kept)
 
@@ -164,8 +165,8 @@ module _ (argument : List ℕ) (s : State) (kept : keyword_rule bandwidth argume
   unfolding is_wrong_in_matrix is_row_or_bandwidth either provided◌then◌else◌
   width_right = inside_kept bandwidth argument s kept p refl
 
-  pub width_widens : Widens s.matrix (whole_of argument).value
-  width_widens = width_told s.matrix (whole_of argument).value width_right width_most
+  pub width_widens : Widens s.matrix (unwrap_or (whole_of argument) 0)
+  width_widens = width_told s.matrix (unwrap_or (whole_of argument) 0) width_right width_most
 
 -- ---- the state after a line that keeps the matrix open, or opens one
 
@@ -194,14 +195,14 @@ data_onward content s p =
 
 pub row_onward :
     (argument : List ℕ) (s : State) → s.place ≡ place.matrix →
-    Onward (keyword_next row argument s) s.section.conductors (with_row (whole_of argument).value s.matrix s.counts.values)
+    Onward (keyword_next row argument s) s.section.conductors (with_row (unwrap_or (whole_of argument) 0) s.matrix s.counts.values)
     s.counts.values
 unfolding keyword_next moved leads_in_matrix section_after conductors_after matrix_after counts_after is_row_or_bandwidth opens_matrix either provided◌then◌else◌
 row_onward argument s p = record { place = rw p; conductors = rw p; matrix = refl; values = refl }
 
 pub width_onward :
     (argument : List ℕ) (s : State) → s.place ≡ place.matrix →
-    Onward (keyword_next bandwidth argument s) s.section.conductors (with_bandwidth (whole_of argument).value s.matrix)
+    Onward (keyword_next bandwidth argument s) s.section.conductors (with_bandwidth (unwrap_or (whole_of argument) 0) s.matrix)
     s.counts.values
 unfolding keyword_next moved leads_in_matrix section_after conductors_after matrix_after counts_after is_row_or_bandwidth opens_matrix either provided◌then◌else◌
 width_onward argument s p = record { place = rw p; conductors = rw p; matrix = refl; values = refl }

@@ -15,10 +15,10 @@ use Rattle.table_record.specs.declared.Value.{Value}
 use Rattle.table_layout.specs.Codes.{diagonal, banded, sparse}
 use Rattle.base.proofs.IfLaws.{if_true, if_false, by_cases, both_true, both_not_left, both_not_right, both_first, both_second}
 use Rattle.lex_line.specs.Words.{words, second_of}
-use Rattle.lex_number.specs.Number.{number_of, is_formed, is_bounded, word_in}
+use Rattle.lex_number.specs.Number.{number_of, is_formed, is_bounded, word_in, Number}
 use Rattle.lex_number.specs.ValueWord.{is_value_word}
-use Rattle.lex_number.specs.declared.Number.{Number}
-use Rattle.lex_number.specs.declared.Number.TheVariants as number
+use Rattle.std.proofs.Common.{Ok, Err}
+use Rattle.lex_number.specs.declared.NumberError.TheVariants.{Malformed, Range}
 use Rattle.lex_number.proofs.NumberLaws.{number_word}
 use Rattle.lex_keyword.specs.Names.{row, bandwidth}
 use Rattle.line_matrix.specs.declared.Matrix.{Matrix}
@@ -49,9 +49,9 @@ use Rattle.table_layout.specs.Bounds.{most_conductors, most_bandwidth}
 -- ---- number words
 
 told_word : (w : List ℕ) (x : Number) → number_of w ≡ x → is_formed x ≡ true → is_bounded x ≡ true → is_value_word (word_in x) ≡ true
-told_word w (number.Value v) e f b = number_word w v e
-told_word w number.Malformed e f b = absurd (true≢false (sym f))
-told_word w number.Range e f b = absurd (true≢false (sym b))
+told_word w (Ok v) e f b = number_word w v e
+told_word w (Err Malformed) e f b = absurd (true≢false (sym f))
+told_word w (Err Range) e f b = absurd (true≢false (sym b))
 
 -- a number within its bounds writes a value word
 number_told : (w : List ℕ) → (number_check w).formed ≡ true → (number_check w).bounded ≡ true → is_value_word (word_in (number_of w)) ≡ true

@@ -2,6 +2,7 @@
 -- each line are taken apart once; the laws go by induction over the lines, from the state of the forward
 -- reading at a line to the keyword that closes the matrix.
 -- Assumes nothing.
+use Rattle.std.proofs.Common.{is_some, unwrap_or}
 use Prim.Native.Nat.{ℕ, ◌+◌, ◌-◌, ◌≤◌, ◌<◌}
 use mathlib.Core.Path.{◌≡◌, refl, sym, ◌∙◌, ap}
 use mathlib.Core.Bool.{Bool, true, false, not, true≢false}
@@ -51,7 +52,7 @@ pub record Numbers (l : Line) : Type 0 where
   pub bounded : are_bounded (words l.content) ≡ true
 
 abbrev pub column_of : Line → ℕ
-column_of l = (whole_of (first_of (words l.content))).value
+column_of l = unwrap_or (whole_of (first_of (words l.content))) 0
 
 -- "column value"
 pub record Pair (l : Line) : Type 0 where
@@ -268,9 +269,9 @@ abbrev pair_line : List (List ℕ) → DataLine
 pair_line ws =
     record {
       numbers = 1;
-      column = (whole_of (first_of ws)).value;
+      column = unwrap_or (whole_of (first_of ws)) 0;
       right = true;
-      formed = both (whole_of (first_of ws)).formed (number_check (second_of ws)).formed;
+      formed = both (is_some (whole_of (first_of ws))) (number_check (second_of ws)).formed;
       bounded = both (is_whole_within 1 most_conductors (whole_of (first_of ws))) (number_check (second_of ws)).bounded;
     }
 
@@ -284,7 +285,7 @@ sparse_two ws h =
 pair_told : (m : Matrix) (v : ℕ) (l : Line) → data_rule (pair_line (words l.content)) m v ≡ 0 → Pair l
 unfolding within
 pair_told m v l kept =
-    let f : both (whole_of (first_of (words l.content))).formed (number_check (second_of (words l.content))).formed ≡ true =
+    let f : both (is_some (whole_of (first_of (words l.content)))) (number_check (second_of (words l.content))).formed ≡ true =
     data_formed _ m v kept in
     let b : both (is_whole_within 1 most_conductors (whole_of (first_of (words l.content)))) (number_check (second_of (words l.content))).bounded ≡ true = data_bounded _ m v kept in
     let c : within 1 most_conductors (column_of l) ≡ true = sym (whole_within 1 most_conductors _ (both_first _ _ f)) ∙ both_first _ _ b in

@@ -1,7 +1,7 @@
 -- The document that a text writes: the model list, models with their steps, maps with their pins, sections with their
 -- matrices and values. Every text has one, also a text that is refused; the rules are elsewhere.
 -- Assumes nothing.
-use Rattle.std.specs.Prelude.{ℕ, ◌+◌, ◌-◌, max, Bool, false, not, List, [], ◌∷◌, ◌++◌, length, eqb}
+use Rattle.std.specs.Prelude.{ℕ, ◌+◌, ◌-◌, max, Bool, false, not, List, [], ◌∷◌, ◌++◌, length, eqb, unwrap_or}
 use Rattle.table_record.specs.declared.Value.{Value}
 use Rattle.table_layout.specs.Codes.{diagonal, sparse, end_kind, section_kind, fork_kind, endfork_kind, resistance_kind, inductance_kind, conductance_kind, capacitance_kind}
 use Rattle.base.specs.If.{provided◌then◌else◌, both, either}
@@ -213,7 +213,7 @@ in_matrix l = both (eqb l.place place.matrix) (either (eqb (key_of l) plain) (is
 
 -- the integer after [Row] or [Bandwidth]
 unfoldable pub given_by : Line → ℕ
-given_by l = (whole_of (argument_of l).text).value
+given_by l = unwrap_or (whole_of (argument_of l).text) 0
 
 unfoldable pub bandwidth_in : List Line → ℕ
 bandwidth_in [] = 0
@@ -230,7 +230,7 @@ numbers_at form r c (w ∷ ws) = record { row = r; column = c; word = word_in (n
 
 -- "lines `column value`"
 unfoldable pub sparse_at : ℕ → List (List ℕ) → Value
-sparse_at r ws = record { row = r; column = (whole_of (first_of ws)).value; word = word_in (number_of (second_of ws)) }
+sparse_at r ws = record { row = r; column = unwrap_or (whole_of (first_of ws)) 0; word = word_in (number_of (second_of ws)) }
 
 -- "Numbers may run over lines": the numbers of the lines, the next one at (r, c); [Row] i starts at (i, i)
 unfoldable pub values_from : ℕ → ℕ → ℕ → List Line → List Value
@@ -246,7 +246,7 @@ values_from form r c (l ∷ ls) =
 unfoldable pub named_by : ℕ → Line → ℕ
 named_by form l =
     provided eqb (key_of l) row then given_by l else
-    provided both (eqb form sparse) (eqb (key_of l) plain) then (whole_of (first_of (words l.content))).value else 0
+    provided both (eqb form sparse) (eqb (key_of l) plain) then unwrap_or (whole_of (first_of (words l.content))) 0 else 0
 
 unfoldable pub greatest_in : ℕ → List Line → ℕ
 greatest_in form [] = 0

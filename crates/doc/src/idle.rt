@@ -3,7 +3,7 @@
 ghost use Rattle.std.specs.Prelude.{◌≡◌, true, false, ◌+◌, ◌≤◌, length};
 ghost use Rattle.doc.specs.Way.Idle.{IsIdle, SkipsIdle};
 
-use read_line::fast::Passing;
+use lex_line::fast::Past;
 
 fn is_idle(content: &[u8], place: u64) -> bool
     ensures { result ≡ true → IsIdle content.now place }
@@ -18,15 +18,16 @@ fn is_idle(content: &[u8], place: u64) -> bool
 }
 
 // Skips lines that change nothing. Of the state only the place is needed.
-pub fn skip_idle(text: &[u8], at: usize, line: u64, place: u64) -> Passing
+pub fn skip_idle(text: &[u8], at: usize, line: u64, place: u64) -> Past
     requires { (at ≤ length text.now) × (line ≤ at + 1) }
     ensures { SkipsIdle text.now at line place result }
 {
     let mut here = at;
     let mut line_here = line;
+    // No for: each turn finds where the next line starts.
     while here < text.len() {
         if !read_line::fast::may_be_idle(text, here, place) {
-            return Passing {
+            return Past {
                 at: here,
                 line: line_here,
             };
@@ -34,7 +35,7 @@ pub fn skip_idle(text: &[u8], at: usize, line: u64, place: u64) -> Passing
         let found = lex_line::line_at(text, here, lex_line::COMMENT);
         let content = found.content;
         if !is_idle(&text[here..content], place) {
-            return Passing {
+            return Past {
                 at: here,
                 line: line_here,
             };
@@ -42,7 +43,7 @@ pub fn skip_idle(text: &[u8], at: usize, line: u64, place: u64) -> Passing
         here = found.next;
         line_here += 1;
     }
-    Passing {
+    Past {
         at: here,
         line: line_here,
     }

@@ -78,6 +78,7 @@ pub fn next_line(text: &[u8], at: usize, line: u64) -> Found
 {
     let mut here = at;
     let mut line_here = line;
+    // No for: each turn finds where the next line starts.
     while here < text.len() {
         let ends = lex_line::line_at(text, here, lex_line::COMMENT);
         let end = ends.content;

@@ -24,11 +24,7 @@ fn listing_room() -> [u8; 524288] {
 
 // Prints the first `length` bytes of the room, or all of it if it is shorter.
 fn print_room(room: &[u8], length: usize) {
-    if room.len() < length {
-        io::write_all(1, room);
-        return;
-    }
-    io::write_all(1, &room[..length]);
+    io::write_all(1, &room[..length.min(room.len())]);
 }
 
 fn print_listing(text: &[u8], table: &[u64], words: usize) {
@@ -56,7 +52,7 @@ fn main() {
     let count = io::read_full(0, &mut text);
     if MOST < count {
         io::write_all(1, b"toolong\n");
-        return;
+    } else {
+        list(&text[..count]);
     }
-    list(&text[..count]);
 }

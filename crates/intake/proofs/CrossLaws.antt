@@ -5,6 +5,7 @@ use mathlib.Core.List.{List}
 use Prim.Native.Nat.{ℕ, ◌*◌, ◌≤◌, ◌<◌}
 use lib.ListN.{length}
 use Rattle.table_layout.specs.Layout.{models}
+use Rattle.std.specs.Prelude.{Some}
 use Rattle.table_layout.specs.View.{view_of}
 use Rattle.table_layout.specs.declared.View.{View}
 use Rattle.table_record.specs.Way.Standing.{count_of}
@@ -39,7 +40,7 @@ module _ (a b : Finding) where
     first_above l = sym (earlier_first a b n (λ m. l))
 
 -- the staged models, by the table's count of them
-module _ (t table : List ℕ) (filled : HoldsText t table) (v : View) (is_view : v ≡ view_of table) (stage : List ℕ) (staged : ModelsStaged t stage) where
+module _ (t table : List ℕ) (filled : HoldsText t table) (v : View) (is_view : Some v ≡ view_of table) (stage : List ℕ) (staged : ModelsStaged t stage) where
   counted : count_of v models ≡ filled.counts.models
   counted = table_models t table filled v is_view ∙ text_models t filled.counts filled.reads
 

@@ -38,7 +38,7 @@ pub fn cross_finding(
     requires { HoldsText text.now table.now × ModelsStaged text.now models.now × StepsStaged text.now steps.now × ListsFrom text.now start }
     ensures { result ≡ cross_rule (document_of text.now) }
 {
-    let view = table_layout::view_of(table);
+    let view = table_layout::view_of(table).unwrap();
     let counts = view.counts;
     let list = cross_names::list::list_finding(text, table, view, start);
     let maps = cross_names::maps::map_finding(text, table, view);

@@ -2,6 +2,7 @@
 -- v there, and they have n conductors. So two matrices, in any two of the forms, that write the same entries write the
 -- same numbers.
 -- Assumes nothing.
+use Rattle.std.proofs.Common.{unwrap_or}
 use Prim.Native.Nat.{ℕ, zero, suc, ◌+◌, ◌-◌, ◌≤◌, ◌<◌, min, max}
 use mathlib.Core.Path.{◌≡◌, refl, sym, ◌∙◌, ap}
 use mathlib.Core.Bool.{Bool, true, false}
@@ -100,7 +101,7 @@ module _ (form : ℕ) (l : Line) where
   unfolding named_by
   named_other k s = if_false _ _ (ne_eqb _ _ k) ∙ if_false _ _ (both_not_left _ _ (ne_eqb _ _ s))
 
-  named_pair : key_of l ≡ plain → form ≡ sparse → named_by form l ≡ (whole_of (first_of (words l.content))).value
+  named_pair : key_of l ≡ plain → form ≡ sparse → named_by form l ≡ unwrap_or (whole_of (first_of (words l.content))) 0
   unfolding named_by
   named_pair k s = if_false _ _ (ap (λ (x : ℕ). eqb x row) k) ∙ if_true _ _ (both_true _ _ (eq-eqb _ _ s) (eq-eqb _ _ k))
 
@@ -116,7 +117,7 @@ plains_greatest form s (Each.more {x = l} {xs = ls} k ks) rest =
 first_row : (n : ℕ) → (provided eqb 1 (suc n) then 0 else n) ≡ n
 first_row n = by_test (λ (x : ℕ). x ≡ n) (eqb 1 (suc n)) _ _ (λ (e : eqb 1 (suc n) ≡ true). let q : 1 ≡ suc n = eqb-true 1 (suc n) e in omega arith) (λ (e : eqb 1 (suc n) ≡ false). refl)
 
-pair_here : (j : ℕ) (l : Line) (ls : List Line) → (whole_of (first_of (words l.content))).value ≡ j → sparse_word j (l ∷ ls) ≡ value_of (second_of (words l.content))
+pair_here : (j : ℕ) (l : Line) (ls : List Line) → unwrap_or (whole_of (first_of (words l.content))) 0 ≡ j → sparse_word j (l ∷ ls) ≡ value_of (second_of (words l.content))
 unfolding sparse_word
 pair_here j l ls e = if_true _ _ (eq-eqb _ _ e)
 
@@ -178,7 +179,7 @@ module _ (v : ℕ → ℕ → ℕ) (n i : ℕ) where
   unfolding sparse_word
   pairs_below (Pairs.ended z) x h = refl
   pairs_below (pair {l = l} {ls = ls} j low high k column value z ps) x h =
-      sparse_later x l ls (λ (e : (whole_of (first_of (words l.content))).value ≡ x). omega (arith, column, e)) ∙ pairs_below ps x (omega arith)
+      sparse_later x l ls (λ (e : unwrap_or (whole_of (first_of (words l.content))) 0 ≡ x). omega (arith, column, e)) ∙ pairs_below ps x (omega arith)
 
   pairs_written : {c : ℕ} {ls : List Line} → Pairs v n i c ls → (x : ℕ) → c ≤ x → x ≤ n → sparse_word x ls ≡ v i x
   unfolding sparse_word
@@ -190,7 +191,7 @@ module _ (v : ℕ → ℕ → ℕ) (n i : ℕ) where
       pair_here x l ls (column ∙ q) ∙ value ∙ ap (v i) q)
       (λ (e : eqb j x ≡ false).
       let q : j ≡ x → ⊥ = eqb-false j x e in
-      sparse_later x l ls (λ (y : (whole_of (first_of (words l.content))).value ≡ x). q (sym column ∙ y))
+      sparse_later x l ls (λ (y : unwrap_or (whole_of (first_of (words l.content))) 0 ≡ x). q (sym column ∙ y))
       ∙ by_cases _ (ltb x j)
       (λ (h : ltb x j ≡ true). let less : x < j = ltb-true x j h in pairs_below ps x (omega arith) ∙ sym (z x low less))
       (λ (h : ltb x j ≡ false). let more : j ≤ x = ltb-false x j h in pairs_written ps x (omega arith) high))

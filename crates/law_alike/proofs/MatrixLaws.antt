@@ -1,5 +1,6 @@
 -- The matrices and sections of alike lines: the same kinds, conductors and numbers at every row and column.
 -- Assumes nothing.
+use Rattle.std.proofs.Common.{unwrap_or}
 use mathlib.Core.Path.{◌≡◌, refl, sym, ◌∙◌, ap, subst}
 use mathlib.Core.Bool.{Bool, true, false, not, true≢false}
 use mathlib.Core.List.{List, [], ◌∷◌, ◌++◌}
@@ -61,7 +62,7 @@ module _ (l m : Line) (s : SameLine l m) (h : in_matrix l ≡ true) where
 
   body_given : key_of l ≡ row → given_by l ≡ given_by m
   unfolding given_by takes_text opens_header_text either
-  body_given e = ap (λ (w : List ℕ). (whole_of w).value) (named_same l m s body_reads row e (λ (q : row ≡ plain). omega arith) refl)
+  body_given e = ap (λ (w : List ℕ). unwrap_or (whole_of w) 0) (named_same l m s body_reads row e (λ (q : row ≡ plain). omega arith) refl)
 
   pub same_body : SameBody l m
   same_body = record { key = keys_same l m s body_reads; said = body_words; given = body_given }
@@ -122,12 +123,12 @@ module _ (form : ℕ) where
       (λ (e : key_of l ≡ row → ⊥) (f : key_of l ≡ plain → ⊥). neither l e f ∙ sym (neither m (λ (q : key_of m ≡ row). e (s.key ∙ q)) (λ (q : key_of m ≡ plain). f (s.key ∙ q))))
     where
       name_by : ℕ → ℕ → List (List ℕ) → ℕ
-      name_by k given ws = provided eqb k row then given else provided both (eqb form sparse) (eqb k plain) then (whole_of (first_of ws)).value else 0
+      name_by k given ws = provided eqb k row then given else provided both (eqb form sparse) (eqb k plain) then unwrap_or (whole_of (first_of ws)) 0 else 0
 
       row_less : (a b : ℕ) → key_of l ≡ plain → name_by (key_of l) a (words m.content) ≡ name_by (key_of l) b (words m.content)
       row_less a b e = if_false _ _ (ap (λ (k : ℕ). eqb k row) e) ∙ sym (if_false _ _ (ap (λ (k : ℕ). eqb k row) e))
 
-      neither : (x : Line) → (key_of x ≡ row → ⊥) → (key_of x ≡ plain → ⊥) → (provided eqb (key_of x) row then given_by x else provided both (eqb form sparse) (eqb (key_of x) plain) then (whole_of (first_of (words x.content))).value else 0) ≡ 0
+      neither : (x : Line) → (key_of x ≡ row → ⊥) → (key_of x ≡ plain → ⊥) → (provided eqb (key_of x) row then given_by x else provided both (eqb form sparse) (eqb (key_of x) plain) then unwrap_or (whole_of (first_of (words x.content))) 0 else 0) ≡ 0
       neither x e f = if_false _ _ (ne_eqb _ _ e) ∙ if_false _ _ (both_not_right _ _ (ne_eqb _ _ f))
 
   greatest_same : {bs cs : List Line} → All2 SameBody bs cs → greatest_in form bs ≡ greatest_in form cs
@@ -189,8 +190,8 @@ module _ (form : ℕ) where
   unfolding sparse_word
   sparse_same j all2_none Each_none = refl
   sparse_same j (all2_more {x = l} {y = m} {xs = bs} {ys = cs} s a) (each_more p ps) =
-      ap (λ (ws : List (List ℕ)). provided eqb (whole_of (first_of ws)).value j then word_in (number_of (second_of ws)) else sparse_word j bs) (s.said (is_plain_lem l p))
-      ∙ ap (λ (n : ℕ). provided eqb (whole_of (first_of (words m.content))).value j then word_in (number_of (second_of (words m.content))) else n) (sparse_same j a ps)
+      ap (λ (ws : List (List ℕ)). provided eqb (unwrap_or (whole_of (first_of ws)) 0) j then word_in (number_of (second_of ws)) else sparse_word j bs) (s.said (is_plain_lem l p))
+      ∙ ap (λ (n : ℕ). provided eqb (unwrap_or (whole_of (first_of (words m.content))) 0) j then word_in (number_of (second_of (words m.content))) else n) (sparse_same j a ps)
 
   pub written_same : (i j : ℕ) {bs cs : List Line} → All2 SameBody bs cs → written_at form bs i j ≡ written_at form cs i j
   unfolding written_at

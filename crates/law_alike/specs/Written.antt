@@ -1,7 +1,7 @@
 -- Document 01, "Sections and matrices": the number that a matrix writes at a row and a column, by its own form. "Entries not written .. are
 -- zero".
 -- Assumes nothing.
-use Rattle.std.specs.Prelude.{ℕ, ◌-◌, Bool, List, [], ◌∷◌, ◌++◌, map, get_or, eqb}
+use Rattle.std.specs.Prelude.{ℕ, ◌-◌, Bool, List, [], ◌∷◌, ◌++◌, map, get_or, eqb, unwrap_or}
 use Rattle.table_layout.specs.Codes.{diagonal, sparse}
 use Rattle.base.specs.If.{provided◌then◌else◌, both}
 use Rattle.lex_line.specs.Words.{words, first_of, second_of}
@@ -33,7 +33,7 @@ word_of i ws = get_or (map (λ (w : List ℕ). word_in (number_of w)) ws) i zero
 unfoldable pub sparse_word : ℕ → List Line → ℕ
 sparse_word j [] = zero_word
 sparse_word j (l ∷ ls) =
-    provided eqb (whole_of (first_of (words l.content))).value j then word_in (number_of (second_of (words l.content))) else sparse_word j ls
+    provided eqb (unwrap_or (whole_of (first_of (words l.content))) 0) j then word_in (number_of (second_of (words l.content))) else sparse_word j ls
 
 -- The number at row i and column j, where i is at most j. In a Diagonal_matrix it is the i-th of N numbers, and zero off the
 -- diagonal. In a Sparse_matrix it is found by its column. Otherwise it is number j - i of row i, counted from 0: "diagonal first".

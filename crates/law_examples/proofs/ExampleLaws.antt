@@ -360,7 +360,7 @@ record Computed : Type 0 where
 
 -- unfolds every definition that is needed to read the texts
 computed : Computed
-unfolding text_of place_behind d0.first d1.within d1.is_blank d1.is_digit d1.is_capital d1.is_small d1.is_letter d1.small d1.is_filled d1.is_printed d1.is_before d1.is_content d3.provided◌then◌else◌ d3.both d3.either d4.run d4.all d4.same d5.without_return d5.characters d5.raw_line_rule d5.refused_or d5.lines_rule d5.byte_rules d6.pushed d6.lines d6.said d6.contents d6.content_of d6.is_blank_line d7.word_goes_on d7.grown d7.words_from d7.back_run d7.last_end d7.has_equals d7.left_of d7.right_of d8.capped_digits d8.capped_exponent d8.size_at d8.raising d8.lowering d9.value_of d9.is_integer d9.whole_of d9.is_whole_within d10.is_sign d10.is_minus d10.is_point d10.is_e d10.past_sign d10.no_digits d10.digits_go_on d10.with_point d10.with_digit d10.with_byte d10.scan d10.no_exponent d10.exponent_at d10.exponent_of d10.power_in d10.scale_by d10.scale_of d10.raised d10.lowered d10.in_range d10.value_as d10.well_formed d10.number_from d10.digits_of d10.exponent_from d10.number_of d11.value_word d11.decimal_of d11.is_decimal d11.is_value_word d12.is_open d12.is_not_closing d12.is_separator d12.is_plain_byte d12.push d12.parted d12.is_hyphen_word d12.is_good_word d12.are_good_words d12.is_good_name d12.name_length d12.name_of d12.is_closed d12.is_good_bracket d12.argument_at d12.named_as d12.bracket_of d13.joined_names d13.letters d13.start_of d13.shorter d13.first_of_size d13.begins d13.stands_at d14.folded d14.same_name d14.name_index d14.keyword_of d14.is_later d15.opens_line d15.is_word_byte d15.closes_at d15.says_name place.opens_header_text place.stands_in_header place.leads_in_header place.leads_in_family place.leads_in_model place.opens_matrix place.leads_in_section place.is_row_or_bandwidth place.leads_in_matrix place.leads_after_family place.is_in_header place.is_in_family place.is_in_model place.moved place.is_text place.moved_by_line d17.is_reserved d17.is_one_word d17.is_name d17.is_file_byte d17.is_extension d17.is_file_name d17.form_of d17.method_of d17.takes_nothing d17.takes_free_text d17.takes_name d17.is_bad_form d17.is_bad_argument d17.is_bad_integer d17.is_out_of_bounds d18.model_type_of d18.wrong_head_line d18.type_line d18.ratio_of d18.sgr_line d18.impedance_line d18.head_line_of d18.is_head_out_of_order d18.head_next d18.new_head d18.head_lacks d19.saying_of d19.plain_line d19.names_one d19.is_mult d19.is_section_line d19.amount_formed d19.amount_of d19.amount_bounded d19.section_line d19.line_saying d19.path_line_of d19.new_path d19.is_bad_fork d19.is_path_out_of_order d19.is_step_line d19.with_end d19.path_next d19.path_open d19.path_lacks d20.amount_line d20.unit_line d20.is_parted d20.parts_line d21.order_of d21.wrong_map_line d21.order_line d21.list_line d21.size_line d21.map_line_of d21.new_map d21.is_ordered d21.is_map_out_of_order d21.map_next d21.is_pin_line d21.with_pin d21.pins_lack d21.is_wrong_grid d22.new_matrix d22.is_wrong_bandwidth d22.is_wrong_row d22.with_bandwidth d22.in_row d22.stands_above d22.still_fits d22.with_row d22.number_check d22.are_formed d22.are_bounded d22.numbers_line d22.sparse_line d22.data_line_of d22.is_data_out_of_order d22.are_too_many d22.with_column d22.data_next d22.shape_conductors d22.is_shaped d22.is_wrong_shape d22.is_too_wide d23.is_seen d23.is_once d23.has_no_kind d23.kinds_lack d23.header_lacks d23.family_lacks d23.is_lacking d23.is_too_late d23.is_unclosed d23.is_repeated d23.is_misplaced d23.is_fork_open d23.is_wrong_in_matrix d23.is_matrix_broken d23.is_shape_broken d23.closes_too_wide d23.is_full d23.is_past_bound d23.seen_after d23.head_after d23.path_after d23.map_after d23.conductors_after d23.section_after d23.matrix_after d23.one_more_if d23.counts_after d23.keyword_next d24.no_counts d24.none_seen d24.new_section d24.start_state d25.counts_after_line d25.line_next d25.argument_from d25.goes d25.breaks d25.judged d25.rules_and_next d25.line_result d25.at_end d25.onward d25.read_from d25.reading_of d26.meetings d26.state_after d27.resume d28.bases_from d29.joined d29.layout d29.chopped d29.parts_in d30.are_within d30.bases_at d30.counts_at d30.end_at d30.no_view d30.view_of d31.saying_at d31.step_of d31.steps_in d31.head_in d31.says_sgr d31.sgr_in d31.opens_model d31.in_model d31.model_of d31.model_at d31.listed_at d31.opens_map d31.in_map d31.grid_in d31.pin_at d31.map_of d31.map_at d31.kind_of d31.opens_matrix_at d31.in_matrix d31.given_by d31.bandwidth_in d31.next_row d31.numbers_at d31.sparse_at d31.values_from d31.named_by d31.greatest_in d31.conductors_in d31.matrix_of d31.matrix_at d31.opens_section d31.in_section d31.method_in d31.section_of d31.section_at d31.document_in d31.document_of d32.extent_of d32.extent_at d33.comes_before d33.is_in_upper_half d33.rises d34.key_at d34.place_after d34.lines_from d34.lines_at d34.significant d34.key_of d34.argument_of d34.words_of d34.right_words_of d34.no_word d34.stands_in d34.gather d34.up_to d35.index_of d35.is_map_of d35.is_section_of d35.target_of d35.step_record d35.step_records d35.model_record d35.model_records d35.pin_record d35.pin_records d35.map_record d35.map_records d35.index_of_kind d35.section_record d35.section_records d35.matrices_of d35.matrix_record d35.matrix_records d35.values_of d35.flatten parts_of d35.table_of records_in records_of d36.store_answer d37.writes_at d37.writes_part d37.nth_line d38.any d38.same_word d38.is_twice d38.is_there d38.uses d38.is_used d38.pins_at d38.conductors_at d38.method_at d38.is_other_form d38.has_other_form d38.has_map d38.has_section d38.clash d38.clashes d38.is_clashing d38.is_wrong_method d38.is_single_line d38.list_rules_at_lines d38.step_rules_at_lines d38.model_rules_at_lines d38.sgr_rules_at_lines d38.pin_rules_at_lines d38.map_rules_at_lines d38.section_rules_at_lines d38.all_rules_at_lines d38.earlier d38.no_finding d38.earliest d38.cross_rule d39.verdict_of d39.table_for d40.takes_equals d40.takes_text d41.is_plain d41.row_lines d41.numbers_of d41.word_of d41.sparse_word d41.written_at
+unfolding text_of place_behind d0.first d1.within d1.is_blank d1.is_digit d1.is_capital d1.is_small d1.is_letter d1.small d1.is_filled d1.is_printed d1.is_before d1.is_content d3.provided◌then◌else◌ d3.both d3.either d4.run d4.all d4.same d5.without_return d5.characters d5.raw_line_rule d5.refused_or d5.lines_rule d5.byte_rules d6.pushed d6.lines d6.said d6.contents d6.content_of d6.is_blank_line d7.word_goes_on d7.grown d7.words_from d7.back_run d7.last_end d7.has_equals d7.left_of d7.right_of d8.capped_digits d8.capped_exponent d8.size_at d8.raising d8.lowering d9.value_of d9.is_integer d9.whole_of d10.is_sign d10.is_minus d10.is_point d10.is_e d10.past_sign d10.no_digits d10.digits_go_on d10.with_point d10.with_digit d10.with_byte d10.scan d10.no_exponent d10.exponent_at d10.exponent_of d10.power_in d10.scale_by d10.scale_of d10.raised d10.lowered d10.in_range d10.value_as d10.well_formed d10.number_from d10.digits_of d10.exponent_from d10.number_of d11.value_word d11.decimal_of d11.is_decimal d11.is_value_word d12.is_open d12.is_not_closing d12.is_separator d12.is_plain_byte d12.push d12.parted d12.is_hyphen_word d12.is_good_word d12.are_good_words d12.is_good_name d12.name_length d12.name_of d12.is_closed d12.is_good_bracket d12.argument_at d12.named_as d12.bracket_of d13.joined_names d13.letters d13.start_of d13.shorter d13.first_of_size d13.begins d13.stands_at d14.folded d14.same_name d14.name_index d14.keyword_of d14.is_later d15.opens_line d15.closes_at d15.says_name place.opens_header_text place.stands_in_header place.leads_in_header place.leads_in_family place.leads_in_model place.opens_matrix place.leads_in_section place.is_row_or_bandwidth place.leads_in_matrix place.leads_after_family place.is_in_header place.is_in_family place.is_in_model place.moved place.is_text place.moved_by_line d17.is_reserved d17.is_one_word d17.is_name d17.is_file_byte d17.is_extension d17.is_file_name d17.form_of d17.method_of d17.takes_nothing d17.takes_free_text d17.takes_name d17.is_bad_form d17.is_bad_argument d17.is_bad_integer d17.is_out_of_bounds d18.model_type_of d18.wrong_head_line d18.type_line d18.ratio_of d18.sgr_line d18.impedance_line d18.head_line_of d18.is_head_out_of_order d18.head_next d18.new_head d18.head_lacks d19.saying_of d19.plain_line d19.names_one d19.is_mult d19.is_section_line d19.amount_formed d19.amount_of d19.amount_bounded d19.section_line d19.line_saying d19.path_line_of d19.new_path d19.is_bad_fork d19.is_path_out_of_order d19.is_step_line d19.with_end d19.path_next d19.path_open d19.path_lacks d20.amount_line d20.unit_line d20.is_parted d20.parts_line d21.order_of d21.wrong_map_line d21.order_line d21.list_line d21.size_line d21.map_line_of d21.new_map d21.is_ordered d21.is_map_out_of_order d21.map_next d21.is_pin_line d21.with_pin d21.pins_lack d21.is_wrong_grid d22.new_matrix d22.is_wrong_bandwidth d22.is_wrong_row d22.with_bandwidth d22.in_row d22.stands_above d22.still_fits d22.with_row d22.number_check d22.are_formed d22.are_bounded d22.numbers_line d22.sparse_line d22.data_line_of d22.is_data_out_of_order d22.are_too_many d22.with_column d22.data_next d22.shape_conductors d22.is_shaped d22.is_wrong_shape d22.is_too_wide d23.is_seen d23.is_once d23.has_no_kind d23.kinds_lack d23.header_lacks d23.family_lacks d23.is_lacking d23.is_too_late d23.is_unclosed d23.is_repeated d23.is_misplaced d23.is_fork_open d23.is_wrong_in_matrix d23.is_matrix_broken d23.is_shape_broken d23.closes_too_wide d23.is_full d23.is_past_bound d23.seen_after d23.head_after d23.path_after d23.map_after d23.conductors_after d23.section_after d23.matrix_after d23.one_more_if d23.counts_after d23.keyword_next d24.no_counts d24.none_seen d24.new_section d24.start_state d25.counts_after_line d25.line_next d25.argument_from d25.goes d25.breaks d25.judged d25.rules_and_next d25.line_result d25.at_end d25.onward d25.read_from d25.reading_of d26.meetings d26.state_after d27.resume d28.bases_from d29.joined d29.layout d29.chopped d29.parts_in d30.are_within d30.bases_at d30.counts_at d30.end_at d30.view_of d31.saying_at d31.step_of d31.steps_in d31.head_in d31.says_sgr d31.sgr_in d31.opens_model d31.in_model d31.model_of d31.model_at d31.listed_at d31.opens_map d31.in_map d31.grid_in d31.pin_at d31.map_of d31.map_at d31.kind_of d31.opens_matrix_at d31.in_matrix d31.given_by d31.bandwidth_in d31.next_row d31.numbers_at d31.sparse_at d31.values_from d31.named_by d31.greatest_in d31.conductors_in d31.matrix_of d31.matrix_at d31.opens_section d31.in_section d31.method_in d31.section_of d31.section_at d31.document_in d31.document_of d32.extent_of d32.extent_at d33.comes_before d33.is_in_upper_half d33.rises d34.key_at d34.place_after d34.lines_from d34.lines_at d34.significant d34.key_of d34.argument_of d34.words_of d34.right_words_of d34.no_word d34.stands_in d34.gather d34.up_to d35.index_of d35.is_map_of d35.is_section_of d35.target_of d35.step_record d35.step_records d35.model_record d35.model_records d35.pin_record d35.pin_records d35.map_record d35.map_records d35.index_of_kind d35.section_record d35.section_records d35.matrices_of d35.matrix_record d35.matrix_records d35.values_of d35.flatten parts_of d35.table_of records_in records_of d36.store_answer d37.writes_at d37.writes_part d37.nth_line d38.any d38.same_word d38.is_twice d38.is_there d38.uses d38.is_used d38.pins_at d38.conductors_at d38.method_at d38.is_other_form d38.has_other_form d38.has_map d38.has_section d38.clash d38.clashes d38.is_clashing d38.is_wrong_method d38.is_single_line d38.list_rules_at_lines d38.step_rules_at_lines d38.model_rules_at_lines d38.sgr_rules_at_lines d38.pin_rules_at_lines d38.map_rules_at_lines d38.section_rules_at_lines d38.all_rules_at_lines d38.earlier d38.no_finding d38.earliest d38.cross_rule d39.verdict_of d39.table_for d40.takes_equals d40.takes_text d41.is_plain d41.row_lines d41.numbers_of d41.word_of d41.sparse_word d41.written_at
 computed =
     record {
       example_accepted = refl;

@@ -1,6 +1,7 @@
 -- The lines of one set, read one by one, leave what its rows leave. So 16 at the closing keyword is judged by the set that
 -- the lines write.
 -- Assumes nothing.
+use Rattle.std.proofs.Common.{unwrap_or}
 use Prim.Native.Nat.{ℕ, suc, ◌+◌, ◌≤◌}
 use mathlib.Core.Path.{◌≡◌, refl, sym, ◌∙◌, ap}
 use mathlib.Core.Bool.{true, false, true≢false}
@@ -108,11 +109,11 @@ module _ (m : Matrix) (content : List ℕ) where
     unfolding sparse_line
     pair_count = ap (λ (l : DataLine). l.numbers) (pair_line ∙ if_true _ _ pair_words)
 
-    pair_column : (data_line_of m.form content).column ≡ (whole_of (first_of (words content))).value
+    pair_column : (data_line_of m.form content).column ≡ unwrap_or (whole_of (first_of (words content))) 0
     unfolding sparse_line
     pair_column = ap (λ (l : DataLine). l.column) (pair_line ∙ if_true _ _ pair_words)
 
-    pair_next : data_next (data_line_of m.form content) m ≡ with_column (whole_of (first_of (words content))).value m
+    pair_next : data_next (data_line_of m.form content) m ≡ with_column (unwrap_or (whole_of (first_of (words content))) 0) m
     unfolding data_next
     pair_next = if_true _ _ (eq-eqb _ _ f) ∙ ap (λ (c : ℕ). with_column c m) pair_column
 
@@ -172,7 +173,7 @@ record SparseRead (last : Matrix) (end : ℕ) (m : Matrix) (v : ℕ) (entries : 
 
 pair_further :
     (last : Matrix) (end : ℕ) (m : Matrix) (v : ℕ) (content : List ℕ) (entries : List Entry) →
-    SparseRead last end (with_column (whole_of (first_of (words content))).value m) (v + 1) entries →
+    SparseRead last end (with_column (unwrap_or (whole_of (first_of (words content))) 0) m) (v + 1) entries →
     SparseRead last end m v (Entry.data_entry content ∷ entries)
 unfolding columns_above sparse_rows_of after_columns
 pair_further last end m v content entries h =
@@ -194,9 +195,9 @@ sparse_read (Entry.bandwidth_entry b ∷ entries) m v f (Leads.bandwidth w r) =
     absurd (omega arith)
 sparse_read (Entry.data_entry content ∷ entries) m v f (Leads.numbers kept r) =
     let right : (data_line_of m.form content).right ≡ true = data_right (data_line_of m.form content) m v kept in
-    let next : Leads _ _ (with_column (whole_of (first_of (words content))).value m) (v + 1) entries =
+    let next : Leads _ _ (with_column (unwrap_or (whole_of (first_of (words content))) 0) m) (v + 1) entries =
     rw (pair_next m content f right, pair_count m content f right) at r in
-    pair_further _ _ m v content entries (sparse_read entries (with_column (whole_of (first_of (words content))).value m) (v + 1) f next)
+    pair_further _ _ m v content entries (sparse_read entries (with_column (unwrap_or (whole_of (first_of (words content))) 0) m) (v + 1) f next)
 
 -- no line stands above the first [Row]
 none_column :

@@ -2,6 +2,7 @@
 -- they are a path of the grammar; in the place of a matrix the keyword that closes it gets 16 exactly when the set of lines
 -- has not the shape of its form, or another N than the section.
 -- Assumes nothing.
+use Rattle.std.proofs.Common.{is_some, unwrap_or}
 use Prim.Native.Nat.{ℕ, ◌+◌, ◌≤◌}
 use mathlib.Core.Path.{◌≡◌, refl, sym, ◌∙◌, ap}
 use mathlib.Core.Bool.{Bool, true, false}
@@ -149,7 +150,7 @@ module _ (argument : List ℕ) (s : State) (at : s.place ≡ place.matrix) where
   unfolding keyword_next moved leads_in_matrix is_row_or_bandwidth section_after provided◌then◌else◌ either
   width_stays = record { place_is = ap (λ (p : ℕ). moved p bandwidth) at; same_conductors = inside_conductors bandwidth refl }
 
-  row_matrix : (keyword_next row argument s).matrix ≡ with_row (whole_of argument).value s.matrix s.counts.values
+  row_matrix : (keyword_next row argument s).matrix ≡ with_row (unwrap_or (whole_of argument) 0) s.matrix s.counts.values
   unfolding keyword_next matrix_after opens_matrix provided◌then◌else◌ either
   row_matrix = refl
 
@@ -157,7 +158,7 @@ module _ (argument : List ℕ) (s : State) (at : s.place ≡ place.matrix) where
   unfolding keyword_next counts_after
   row_values = refl
 
-  width_matrix : (keyword_next bandwidth argument s).matrix ≡ with_bandwidth (whole_of argument).value s.matrix
+  width_matrix : (keyword_next bandwidth argument s).matrix ≡ with_bandwidth (unwrap_or (whole_of argument) 0) s.matrix
   unfolding keyword_next matrix_after opens_matrix provided◌then◌else◌ either
   width_matrix = refl
 
@@ -171,19 +172,19 @@ module _ (argument : List ℕ) (s : State) (at : s.place ≡ place.matrix) where
         all_kept (keyword_rules row argument s)
         (omega arith, (omega arith, (omega arith, (omega arith, (omega arith, (omega arith, (omega arith, tt))))))) kept i
 
-    row_formed : (whole_of argument).formed ≡ true
+    row_formed : is_some (whole_of argument) ≡ true
     unfolding is_bad_integer is_row_or_bandwidth both either
     row_formed = not-false _ (row_kept 3)
 
-    row_high : (whole_of argument).value ≤ most_conductors
+    row_high : unwrap_or (whole_of argument) 0 ≤ most_conductors
     unfolding is_out_of_bounds provided◌then◌else◌
     row_high = whole_most 1 most_conductors argument (not-false _ (row_kept 4))
 
-    row_judged : is_shape_broken row argument s ≡ both (whole_of argument).formed (is_wrong_row (whole_of argument).value s.matrix)
+    row_judged : is_shape_broken row argument s ≡ both (is_some (whole_of argument)) (is_wrong_row (unwrap_or (whole_of argument) 0) s.matrix)
     unfolding is_shape_broken is_matrix_broken is_wrong_in_matrix is_row_or_bandwidth provided◌then◌else◌ either
     row_judged = if_true _ _ (eq-eqb _ _ at)
 
-    row_ordered_lem : is_wrong_row (whole_of argument).value s.matrix ≡ false
+    row_ordered_lem : is_wrong_row (unwrap_or (whole_of argument) 0) s.matrix ≡ false
     row_ordered_lem = sym (row_judged ∙ both_rest _ _ row_formed) ∙ row_kept 5
 
   module _ (kept : first_broken (keyword_rules bandwidth argument s) ≡ 0) where

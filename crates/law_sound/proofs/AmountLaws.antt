@@ -17,9 +17,9 @@ use Rattle.base.specs.Broken.{Rule, ◌when◌}
 use Rattle.base.proofs.IfLaws.{if_true, if_false, by_test, by_cases, both_true}
 use Rattle.base.proofs.BrokenLaws.{sound, all_kept}
 use Rattle.lex_line.specs.Words.{first_of, right_of}
-use Rattle.lex_number.specs.Number.{number_of, is_formed, word_in}
-use Rattle.lex_number.specs.declared.Number.{Number}
-use Rattle.lex_number.specs.declared.Number.TheVariants as number
+use Rattle.lex_number.specs.Number.{number_of, is_formed, word_in, Number}
+use Rattle.std.proofs.Common.{Ok, Err}
+use Rattle.lex_number.specs.declared.NumberError.TheVariants.{Malformed, Range}
 use Rattle.lex_number.proofs.NumberLaws.{number_word}
 use Rattle.lex_number.proofs.IntegerLaws.{whole_within}
 use Rattle.line_place.specs.Place as place
@@ -53,9 +53,9 @@ pub record Amount (content : List ℕ) : Type 0 where
 -- the value word of a number above zero is a value word above zero
 length_word : (w : List ℕ) (x : Number) → number_of w ≡ x → is_formed x ≡ true → path.is_length x ≡ true → is_length_word (word_in x) ≡ true
 unfolding is_length_word
-length_word w (number.Value v) e f b = both_true _ _ (number_word w v e) b
-length_word w number.Malformed e f b = absurd (true≢false (sym f))
-length_word w number.Range e f b = absurd (true≢false (sym b))
+length_word w (Ok v) e f b = both_true _ _ (number_word w v e) b
+length_word w (Err Malformed) e f b = absurd (true≢false (sym f))
+length_word w (Err Range) e f b = absurd (true≢false (sym b))
 
 amount_told :
     (content : List ℕ) → amount_formed (is_mult content) (first_of (right_of content)) ≡ true →

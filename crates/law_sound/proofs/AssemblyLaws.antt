@@ -17,6 +17,7 @@ use Rattle.doc.proofs.DepthLaws.{read_deep}
 use Rattle.doc.proofs.SectionLaws.{RightSection, text_sections}
 use Rattle.cross_rules.specs.Rules.{cross_rule}
 use Rattle.cross_rules.specs.Way.HoldsText.{HoldsText}
+use Rattle.std.specs.Prelude.{is_some}
 use Rattle.cross_rules.proofs.TableLaws.{view_fits}
 use Rattle.ask_sound.specs.Sound.{are_sound, is_sound}
 use Rattle.law_sound.proofs.EndLaws.{filled_zeros, filled_records}
@@ -62,5 +63,5 @@ bounded_sound t table fine filled bounds kept =
     let records : are_sound (length t) (flatten (document_of t)) ≡ true =
     records_sound t (document_of t) (all_named t fine filled.counts filled.reads) bounds
     (read_deep t filled.counts filled.reads) (text_sections t filled.counts filled.reads) kept in
-    both_true _ _ (view_fits t table filled)
+    both_true _ _ (ap is_some (view_fits t table filled))
     (both_true _ _ (filled_zeros t table filled) (ap (are_sound (length t)) (filled_records t table filled) ∙ records))

@@ -1,7 +1,7 @@
 -- The words that a filled table uses end with the layout, and only zeros follow.
 -- Assumes nothing.
 use mathlib.Core.Path.{◌≡◌, refl, sym, ◌∙◌, ap}
-use mathlib.Core.Bool.{true, false, true≢false}
+use mathlib.Core.Bool.{true}
 use mathlib.Core.List.{List, ◌∷◌, ◌++◌, append_assoc}
 use Prim.Native.Nat.{ℕ, zero, suc, ◌+◌, ◌-◌, ◌*◌}
 use native.Mathlib.Nat.{add-zero, zero-add}
@@ -9,18 +9,15 @@ use native.Mathlib.Omega.{arith}
 use lib.ListN.{length, drop, get_or, replicate, length-append}
 use lib.Seq.{drop-drop, drop_at}
 use Rattle.table_record.specs.Records.{records_of}
-use Rattle.table_layout.specs.Bounds.{bounds}
-use Rattle.base.proofs.IfLaws.{if_true, if_false, by_cases, both_true}
-use Rattle.table_layout.specs.Layout.{widths, joined, layout}
+use Rattle.base.proofs.IfLaws.{both_true}
+use Rattle.table_layout.specs.Layout.{joined, layout}
 use Rattle.table_layout.specs.Way.Parts.{AllLong, Wide}
 use Rattle.table_layout.proofs.LayoutLaws.{length_joined}
-use Rattle.table_layout.specs.View.{are_within, end_at, no_view, view_of}
-use Rattle.table_layout.specs.declared.View.{View}
+use Rattle.table_layout.specs.View.{end_at, placed}
 use Rattle.doc.specs.Document.{document_of}
 use Rattle.doc.specs.Records.{flatten, table_of}
 use Rattle.table_record.proofs.BackLaws.{records_wide, records_back}
 use Rattle.cross_rules.specs.Way.HoldsText.{HoldsText}
-use Rattle.cross_rules.proofs.TableLaws.{view_fits}
 use Rattle.ask_sound.specs.Sound.{every, are_zeros}
 use Rattle.table_layout.proofs.LaidLaws.{count_here}
 
@@ -57,18 +54,6 @@ end_laid rest t at (Wide.more {w} {ws} {records} {parts} long wide) e =
 
 -- ---- a filled table
 
-no_fit : no_view.fits ≡ false
-unfolding no_view
-no_fit = refl
-
-view_end : (table : List ℕ) → (view_of table).fits ≡ true → (view_of table).end ≡ end_at widths table 0
-unfolding view_of
-view_end table fits =
-    by_cases ((view_of table).end ≡ end_at widths table 0) (are_within widths bounds table 0)
-    (λ (h : are_within widths bounds table 0 ≡ true). ap (λ (v : View). v.end) (if_true _ _ h))
-    (λ (h : are_within widths bounds table 0 ≡ false).
-    absurd (true≢false (sym fits ∙ ap (λ (v : View). v.fits) (if_false _ _ h) ∙ no_fit)))
-
 zeros_are : (n : ℕ) → are_zeros (replicate n 0) ≡ true
 unfolding are_zeros every
 zeros_are zero = refl
@@ -79,16 +64,15 @@ module _ (t table : List ℕ) (filled : HoldsText t table) where
   zeros = length table - length (table_of t)
 
   -- the words used are those of the layout
-  pub filled_end : (view_of table).end ≡ length (table_of t)
+  pub filled_end : (placed table).end ≡ length (table_of t)
   unfolding table_of
   filled_end =
-      view_end table (view_fits t table filled)
-      ∙ end_laid (replicate zeros 0) table 0 (records_wide (flatten (document_of t))) filled.words
+      end_laid (replicate zeros 0) table 0 (records_wide (flatten (document_of t))) filled.words
       ∙ zero-add (length (table_of t))
 
-  pub filled_zeros : are_zeros (drop (view_of table).end table) ≡ true
+  pub filled_zeros : are_zeros (drop (placed table).end table) ≡ true
   filled_zeros =
-      let d : drop (view_of table).end table ≡ replicate zeros 0 =
+      let d : drop (placed table).end table ≡ replicate zeros 0 =
       (λ i. drop (filled_end i) (filled.words i)) ∙ drop_at (table_of t) (replicate zeros 0) (length (table_of t)) refl in
       ap are_zeros d ∙ zeros_are zeros
 

@@ -1,6 +1,7 @@
 -- The lines of a model write one path only: two lists of steps that `PathWritten` gives to the same lines are equal. So
 -- it leaves nothing open, and a wrong step of the document could not be among what it allows.
 -- Assumes nothing.
+use Rattle.std.proofs.Common.{unwrap_or}
 use mathlib.Core.Path.{◌≡◌, refl, sym, ◌∙◌, ap}
 use mathlib.Core.Bool.{false, true≢false}
 use mathlib.Core.List.{List, [], ◌∷◌}
@@ -69,7 +70,7 @@ module _ (line : Line) (below : List Line) where
   one_step (model_pinmap e s) (endfork f) = absurd (clash (bytes "Model_pinmap") (bytes "Endfork") refl (first_end_lem line.content e) (first_endfork line.content f))
   one_step (section_mult f g h) (model_pinmap e s) = absurd (clash (bytes "Model_pinmap") (bytes "Section") refl (first_end_lem line.content e) (ap first_of f))
   one_step (section_mult f g h) (section_mult p q r) =
-      λ i. record { kind = section_kind; name = ap second_of (sym g ∙ q) i; amount = (whole_of (ap first_of (sym g ∙ q) i)).value; side = []; line = line.line }
+      λ i. record { kind = section_kind; name = ap second_of (sym g ∙ q) i; amount = unwrap_or (whole_of (ap first_of (sym g ∙ q) i)) 0; side = []; line = line.line }
   one_step (section_mult f g h) (section_len p q r) = absurd (clash (bytes "Mult") (bytes "Len") refl (ap second_of f) (ap second_of p))
   one_step (section_mult f g h) (fork e) = absurd (clash (bytes "Section") (bytes "Fork") refl (ap first_of f) (first_fork line.content e))
   one_step (section_mult f g h) (endfork e) = absurd (clash (bytes "Section") (bytes "Endfork") refl (ap first_of f) (first_endfork line.content e))

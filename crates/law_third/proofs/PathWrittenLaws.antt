@@ -1,6 +1,7 @@
 -- The lines of a text that reads to its end write the paths of its models, in the paper's own words (`PathWritten`): the
 -- steps of the document are the steps that these lines write.
 -- Assumes nothing.
+use Rattle.std.proofs.Common.{is_some, unwrap_or, Ok, Err}
 use mathlib.Core.Path.{◌≡◌, refl, sym, ◌∙◌, ap}
 use mathlib.Core.Bool.{true, false, not, true≢false}
 use mathlib.Core.List.{List, [], ◌∷◌, ◌++◌, map, append_assoc}
@@ -18,10 +19,9 @@ use Rattle.base.proofs.IfLaws.{if_true, if_false, by_test, by_cases, both_first,
 use Rattle.base.proofs.RunLaws.{same_equal}
 use Rattle.base.proofs.BrokenLaws.{sound, all_kept, lists_yes, lists_no}
 use Rattle.lex_line.specs.Words.{Word, words_from, words, first_of, second_of, to_equals, left_of, right_of}
-use Rattle.lex_number.specs.Number.{number_of, is_formed, word_in}
+use Rattle.lex_number.specs.Number.{number_of, is_formed, word_in, Number}
 use Rattle.lex_number.specs.Integer.{whole_of}
-use Rattle.lex_number.specs.declared.Number.{Number}
-use Rattle.lex_number.specs.declared.Number.TheVariants.{Value, Malformed, Range}
+use Rattle.lex_number.specs.declared.NumberError.TheVariants.{Malformed, Range}
 use Rattle.line_place.specs.Place as place
 use Rattle.line_path.specs.Path.{saying_of, plain_line, names_one, is_length, is_mult, amount_of, is_section_line, amount_formed, amount_bounded, section_line, line_saying, path_line_of}
 use Rattle.line_path.specs.Path as path
@@ -330,18 +330,18 @@ module _ (l : Line) (after : List Line) where
 
 -- ---- the amount
 
-number_value : (x : Number) → is_formed x ≡ true → is_length x ≡ true → x ≡ Value (word_in x)
-number_value (Value w) f b = refl
-number_value Malformed f b = absurd (true≢false (sym f))
-number_value Range f b = absurd (true≢false (sym b))
+number_value : (x : Number) → is_formed x ≡ true → is_length x ≡ true → x ≡ Ok (word_in x)
+number_value (Ok w) f b = refl
+number_value (Err Malformed) f b = absurd (true≢false (sym f))
+number_value (Err Range) f b = absurd (true≢false (sym b))
 
 module _ (content : List ℕ) (k : SectionKept content) where
   module _ (m : is_mult content ≡ true) where
-    mult_amount : amount_of content ≡ (whole_of (first_of (right_of content))).value
+    mult_amount : amount_of content ≡ unwrap_or (whole_of (first_of (right_of content))) 0
     unfolding amount_of
     mult_amount = if_true _ _ m
 
-    mult_formed : (whole_of (first_of (right_of content))).formed ≡ true
+    mult_formed : is_some (whole_of (first_of (right_of content))) ≡ true
     unfolding amount_formed
     mult_formed = sym (if_true _ _ m) ∙ k.formed
 
@@ -354,7 +354,7 @@ module _ (content : List ℕ) (k : SectionKept content) where
     unfolding amount_of
     len_amount = if_false _ _ m
 
-    len_value : number_of (first_of (right_of content)) ≡ Value (word_in (number_of (first_of (right_of content))))
+    len_value : number_of (first_of (right_of content)) ≡ Ok (word_in (number_of (first_of (right_of content))))
     unfolding amount_formed amount_bounded
     len_value = number_value (number_of (first_of (right_of content))) (sym (if_false _ _ m) ∙ k.formed) (sym (if_false _ _ m) ∙ k.bounded)
 

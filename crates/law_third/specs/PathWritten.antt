@@ -1,13 +1,12 @@
 -- Document 01, "Paths", stated a second time, straight from the lines of a text: which lines of a model write the steps
 -- of its path, and what each of them writes. Nothing here uses the definitions by which the document gets its steps.
 -- Assumes nothing.
-use Rattle.std.specs.Prelude.{ℕ, ◌≡◌, true, List, [], ◌∷◌, ◌++◌, map}
+use Rattle.std.specs.Prelude.{ℕ, ◌≡◌, true, List, [], ◌∷◌, ◌++◌, map, is_some, unwrap_or, Ok}
 use Rattle.table_layout.specs.Codes.{end_kind, section_kind, fork_kind, endfork_kind}
 use Rattle.base.specs.Bytes.{bytes}
 use Rattle.lex_line.specs.Words.{words, first_of, left_of, right_of}
 use Rattle.lex_number.specs.Number.{number_of}
 use Rattle.lex_number.specs.Integer.{whole_of}
-use Rattle.lex_number.specs.declared.Number.TheVariants.{Value}
 use Rattle.line_place.specs.Place as place
 use Rattle.doc.specs.Lines.{Line, plain, significant, key_of, argument_of, up_to}
 use Rattle.doc.specs.Document.{Step, Model, opens_model, in_model}
@@ -42,11 +41,11 @@ pub data WritesStep (line : Line) (below : List Line) : PathStep → Type 0 wher
       WritesStep line below (record { kind = end_kind; name = name; amount = 0; side = side; line = line.line })
   section_mult :
       {n name : List ℕ} → left_of line.content ≡ bytes "Section" ∷ bytes "Mult" ∷ [] → right_of line.content ≡ n ∷ name ∷ [] →
-      (whole_of n).formed ≡ true →
-      WritesStep line below (record { kind = section_kind; name = name; amount = (whole_of n).value; side = []; line = line.line })
+      is_some (whole_of n) ≡ true →
+      WritesStep line below (record { kind = section_kind; name = name; amount = unwrap_or (whole_of n) 0; side = []; line = line.line })
   section_len :
       {v name : List ℕ} {word : ℕ} → left_of line.content ≡ bytes "Section" ∷ bytes "Len" ∷ [] → right_of line.content ≡ v ∷ name ∷ [] →
-      number_of v ≡ Value word →
+      number_of v ≡ Ok word →
       WritesStep line below (record { kind = section_kind; name = name; amount = word; side = []; line = line.line })
   fork :
       words line.content ≡ bytes "Fork" ∷ [] →

@@ -1,28 +1,30 @@
 -- Laws of single bytes: how the tests of the code decide the definitions.
 -- Assumes nothing.
-use mathlib.Core.Path.{◌≡◌, sym, ◌∙◌}
+use mathlib.Core.Path.{◌≡◌, refl, sym, ◌∙◌}
 use mathlib.Core.Bool.{Bool, true, false}
-use Prim.Native.Nat.{ℕ, ◌+◌, ◌≤◌}
+use Prim.Native.Nat.{ℕ}
+use native.Mathlib.Omega.{arith}
 use lib.Dec.{leb}
-use borrow.Author.Tests.{ne_eqb, leb-true}
+use Rattle.std.specs.Char.{to_ascii_lowercase}
+use borrow.Author.Tests.{ne_eqb, leb-true, leb-false, lt-ltb, le-ltb}
 use Rattle.base.specs.Bytes.{small, is_capital, is_letter, is_digit, within}
-use Rattle.base.proofs.IfLaws.{if_true, if_false, both_second, either_left, either_rest}
+use Rattle.base.proofs.IfLaws.{by_cases, if_true, if_false, both_true, both_not_left, both_not_right, either_left, either_rest}
 use Rattle.lex_keyword.specs.Names.{folded}
 use Rattle.lex_keyword.specs.Bracket.{is_plain_byte}
 
--- t is the result of the test for a capital letter
-module _ (b : ℕ) (t : Bool) (told : t ≡ is_capital b) where
-  pub capital_most : t ≡ true → b ≤ 90
-  unfolding is_capital within
-  capital_most e = leb-true b 90 (both_second (leb 65 b) (leb b 90) (sym told ∙ e))
-
-  pub fold_capital : (b ≡ 95 → ⊥) → t ≡ true → b + 32 ≡ folded b
-  unfolding folded small
-  fold_capital h e = sym (if_false _ _ (ne_eqb b 95 h) ∙ if_true _ _ (sym told ∙ e))
-
-  pub fold_other : (b ≡ 95 → ⊥) → t ≡ false → b ≡ folded b
-  unfolding folded small
-  fold_other h e = sym (if_false _ _ (ne_eqb b 95 h) ∙ if_false _ _ (sym told ∙ e))
+-- the library's small letter
+pub fold_small : (b : ℕ) → (b ≡ 95 → ⊥) → to_ascii_lowercase b ≡ folded b
+unfolding folded small is_capital within
+fold_small b h =
+    rw (if_false _ _ (ne_eqb b 95 h)) (by_cases _ (leb 65 b)
+    (λ (e : leb 65 b ≡ true).
+    by_cases _ (leb b 90)
+    (λ (f : leb b 90 ≡ true). let p = leb-true 65 b e in let q = leb-true b 90 f in
+    rw (le-ltb b 65 p, lt-ltb b 91 (omega arith), if_true _ _ (both_true _ _ e f)) refl)
+    (λ (f : leb b 90 ≡ false). let p = leb-true 65 b e in let q = leb-false b 90 f in
+    rw (le-ltb b 65 p, le-ltb b 91 (omega arith), if_false _ _ (both_not_right _ _ f)) refl))
+    (λ (e : leb 65 b ≡ false). let p = leb-false 65 b e in
+    rw (lt-ltb b 65 (omega arith), if_false _ _ (both_not_left _ _ e)) refl))
 
 -- t is the result of the test for a letter
 module _ (b : ℕ) (t : Bool) (told : t ≡ is_letter b) where

@@ -1,5 +1,4 @@
 pub mod ByteLaws
-pub mod AllLaws
 pub mod LookupLaws
 pub mod KeyLaws
 pub mod WordLaws

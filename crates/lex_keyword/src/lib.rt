@@ -7,10 +7,10 @@ ghost use Rattle.base.specs.Way.Class.{run_end};
 ghost use Rattle.base.specs.Runs.{all};
 ghost use Rattle.lex_keyword.specs.Names.{folded, names, same_name, keyword_of, is_later};
 ghost use Rattle.lex_keyword.specs.Way.Lookup.{letters, start_of, first_of_size, stands_at};
-ghost use Rattle.lex_keyword.specs.Way.Reading.{is_word_byte, closes_at, says_name};
-ghost use Rattle.lex_keyword.specs.Bracket.{is_plain_byte, parted, is_hyphen_word, is_good_word, are_good_words, is_good_name, named_as, bracket_of};
+ghost use Rattle.lex_keyword.specs.Way.Reading.{closes_at, says_name};
+ghost use Rattle.lex_keyword.specs.Bracket.{is_separator, is_plain_byte, parted, is_hyphen_word, is_good_word, are_good_words, is_good_name, named_as, bracket_of};
 
-use base::Class;
+use base::class::{Before, Blank, ByteClass};
 
 mod fast;
 
@@ -182,22 +182,7 @@ fn fold(b: u8) -> u8
     if b == b'_' {
         return b' ';
     }
-    if base::is_capital(b) {
-        return b + 32;
-    }
-    b
-}
-
-fn from_byte(x: u8) -> usize
-    ensures { result ≡ x }
-{
-    x as usize
-}
-
-fn from_short(x: u16) -> usize
-    ensures { result ≡ x }
-{
-    x as usize
+    b.to_ascii_lowercase()
 }
 
 // The table of letters. A constant that is indexed is built anew at each use. So a search builds this table once and
@@ -212,14 +197,14 @@ fn start_of(key: usize) -> usize
     requires { key < length names }
     ensures { result ≡ start_of key }
 {
-    from_short(STARTS[key])
+    usize::from(STARTS[key])
 }
 
 fn first_of(size: usize) -> usize
     requires { size < 24 }
     ensures { result ≡ first_of_size size }
 {
-    from_byte(FIRSTS[size])
+    usize::from(FIRSTS[size])
 }
 
 // Whether the table has the bytes of the name, as they are compared, from `start` on.
@@ -227,12 +212,10 @@ fn stands_at(table: &[u8], name: &[u8], start: usize) -> bool
     requires { start + length name.now ≤ length table.now }
     ensures { result ≡ stands_at table.now name.now start }
 {
-    let mut i = 0;
-    while i < name.len() {
+    for i in 0..name.len() {
         if fold(name[i]) != table[start + i] {
             return false;
         }
-        i += 1;
     }
     true
 }
@@ -256,14 +239,11 @@ fn key_of(name: &[u8]) -> u64
     if LONGEST < size {
         return UNKNOWN;
     }
-    let end = first_of(size + 1);
-    let mut key = first_of(size);
     let table = all_letters();
-    while key < end {
+    for key in first_of(size)..first_of(size + 1) {
         if is_name_of(&table, name, key) {
             return key as u64;
         }
-        key += 1;
     }
     UNKNOWN
 }
@@ -292,14 +272,11 @@ fn is_later(key: u64) -> bool
     key == ICM_S_PARAMETER
 }
 
-// Neither a space nor an underscore.
-fn is_word_byte(b: u8) -> bool
-    ensures { result ≡ is_word_byte b }
+// A space or an underscore.
+fn is_separator(b: u8) -> bool
+    ensures { result ≡ is_separator b }
 {
-    if b == b' ' {
-        return false;
-    }
-    b != b'_'
+    b == b' ' || b == b'_'
 }
 
 // A letter or a digit.
@@ -309,26 +286,19 @@ fn is_plain_byte(b: u8) -> bool
     if base::is_letter(b) {
         return true;
     }
-    base::in_class(Class::Digit, b)
+    base::is_digit(b)
 }
 
 fn is_plain(word: &[u8]) -> bool
     ensures { result ≡ all is_plain_byte word.now }
 {
-    let mut i = 0;
-    while i < word.len() {
-        if !is_plain_byte(word[i]) {
-            return false;
-        }
-        i += 1;
-    }
-    true
+    word.iter().all(|b| is_plain_byte(*b))
 }
 
 fn is_hyphen_word(word: &[u8]) -> bool
     ensures { result ≡ is_hyphen_word word.now }
 {
-    if word.len() != 11 {
+    if word.len() != HYPHEN_WORD.len() {
         return false;
     }
     stands_at(&HYPHEN_WORD, word, 0)
@@ -337,7 +307,7 @@ fn is_hyphen_word(word: &[u8]) -> bool
 fn is_good_word(word: &[u8]) -> bool
     ensures { result ≡ is_good_word word.now }
 {
-    if word.len() == 0 {
+    if word.is_empty() {
         return false;
     }
     if is_plain(word) {
@@ -346,33 +316,11 @@ fn is_good_word(word: &[u8]) -> bool
     is_hyphen_word(word)
 }
 
-// Where the word that starts at `from` ends.
-fn word_end(name: &[u8], from: usize) -> usize
-    ensures { result ≡ run_end is_word_byte name.now from }
-{
-    let mut i = from;
-    while i < name.len() {
-        if !is_word_byte(name[i]) {
-            return i;
-        }
-        i += 1;
-    }
-    i
-}
-
 fn are_good_words(name: &[u8]) -> bool
     ensures { result ≡ are_good_words (parted name.now) }
 {
-    let mut i = 0;
-    let mut end = word_end(name, 0);
-    while end < name.len() {
-        if !is_good_word(&name[i..end]) {
-            return false;
-        }
-        i = end + 1;
-        end = word_end(name, i);
-    }
-    is_good_word(&name[i..end])
+    name.split(|b| is_separator(*b))
+        .all(|word| is_good_word(word))
 }
 
 fn is_good_name(name: &[u8]) -> bool
@@ -417,7 +365,7 @@ fn closes_at(content: &[u8], end: usize) -> bool
     if content.len() <= next {
         return true;
     }
-    base::in_class(Class::Blank, content[next])
+    Blank.contains(content[next])
 }
 
 // Reads a bracket in column 1. Most are `[Row]`, which needs no search.
@@ -428,7 +376,7 @@ fn opened_bracket(content: &[u8]) -> Bracket
     if fast::is_row(content) {
         return Bracket::Keyword(ROW, base::past_blanks(content, 5));
     }
-    let end = base::skip(Class::Before(b']'), content, 1);
+    let end = base::skip(Before(b']'), content, 1);
     if !closes_at(content, end) {
         return Bracket::Bad;
     }

@@ -3,11 +3,11 @@
 use mathlib.Core.Path.{◌≡◌, refl, sym, ◌∙◌, ap}
 use mathlib.Core.Bool.{true, false}
 use mathlib.Core.List.{List, [], ◌∷◌}
-use Prim.Native.Nat.{ℕ, suc, ◌+◌, ◌-◌, ◌≤◌, ◌<◌}
-use native.Mathlib.Nat.{zero-add}
+use Prim.Native.Nat.{ℕ, ◌+◌, ◌≤◌, ◌<◌}
 use native.Mathlib.Numerals.{add-one}
 use native.Mathlib.Omega.{arith}
-use lib.ListN.{length, take, drop, get_or}
+use lib.ListN.{length, drop, get_or, drop_of_length-le}
+use Rattle.std.specs.Int.{from_bool}
 use lib.Seq.{drop-cons}
 use lib.Dec.{eqb}
 use borrow.Author.Tests.{eq-eqb, ne_eqb, eqb-true, eqb-false}
@@ -39,25 +39,23 @@ pub feeds_more : (b : ℕ) (s : List ℕ) → line_feeds (b ∷ s) ≡ line_feed
 unfolding line_feeds
 feeds_more b s = refl
 
+-- the conversion of a test counts
+pub feed_from : (b : ℕ) (n : ℕ) → n ≡ from_bool (eqb b 10) → n ≡ line_feed_of b
+feed_from b n e =
+    by_cases _ (eqb b 10)
+    (λ (t : eqb b 10 ≡ true). e ∙ ap from_bool t ∙ feed_one b (eqb-true _ _ t))
+    (λ (t : eqb b 10 ≡ false). e ∙ ap from_bool t ∙ feed_none b (eqb-false _ _ t))
+
 -- ---- the loop that counts the LFs of some bytes: what it has counted plus the LFs of the rest is the whole count
 
-module _ (t : List ℕ) where
-  pub feeds_start : (from end : ℕ) → end ≡ from + 16 → 0 + line_feeds (take (end - from) (drop from t)) ≡ line_feeds (take 16 (drop from t))
-  feeds_start from end e = let k : end - from ≡ 16 = omega arith in zero-add _ ∙ ap (λ (n : ℕ). line_feeds (take n (drop from t))) k
+module _ (t : List ℕ) (i count goal : ℕ) (inv : count + line_feeds (drop i t) ≡ goal) where
+  pub feeds_on : i < length t → (f : ℕ) → f ≡ line_feed_of (get_or t i 0) → count + f + line_feeds (drop (i + 1) t) ≡ goal
+  feeds_on h f e =
+      let d : drop i t ≡ get_or t i 0 ∷ drop (i + 1) t = drop-cons t i 0 h ∙ ap (λ (j : ℕ). get_or t i 0 ∷ drop j t) (sym (add-one i)) in
+      let a : line_feeds (drop i t) ≡ line_feed_of (get_or t i 0) + line_feeds (drop (i + 1) t) = ap line_feeds d ∙ feeds_more (get_or t i 0) (drop (i + 1) t) in
+      omega arith
 
-  module _ (i end count goal : ℕ) (inv : count + line_feeds (take (end - i) (drop i t)) ≡ goal) where
-    pub feeds_on : i < end → end ≤ length t → (f : ℕ) → f ≡ line_feed_of (get_or t i 0) → count + f + line_feeds (take (end - (i + 1)) (drop (i + 1) t)) ≡ goal
-    feeds_on h l f e =
-        let k : end - i ≡ suc (end - (i + 1)) = omega arith in
-        let g : i < length t = omega arith in
-        let d : drop i t ≡ get_or t i 0 ∷ drop (i + 1) t = drop-cons t i 0 g ∙ ap (λ (j : ℕ). get_or t i 0 ∷ drop j t) (sym (add-one i)) in
-        let a : line_feeds (take (end - i) (drop i t)) ≡ line_feed_of (get_or t i 0) + line_feeds (take (end - (i + 1)) (drop (i + 1) t)) =
-        ap (λ (n : ℕ). line_feeds (take n (drop i t))) k ∙ ap (λ (u : List ℕ). line_feeds (take (suc (end - (i + 1))) u)) d
-        ∙ feeds_more (get_or t i 0) (take (end - (i + 1)) (drop (i + 1) t)) in
-        omega arith
-
-    pub feeds_done : end ≤ i → count ≡ goal
-    feeds_done h =
-        let k : end - i ≡ 0 = omega arith in
-        let z : line_feeds (take (end - i) (drop i t)) ≡ 0 = ap (λ (n : ℕ). line_feeds (take n (drop i t))) k ∙ feeds_none in
-        omega arith
+  pub feeds_done : length t ≤ i → count ≡ goal
+  feeds_done h =
+      let z : line_feeds (drop i t) ≡ 0 = ap line_feeds (drop_of_length-le t h) ∙ feeds_none in
+      omega arith

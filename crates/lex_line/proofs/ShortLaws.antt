@@ -276,6 +276,14 @@ module _ (u : List ℕ) (line : ℕ) where
 
 -- ---- what callers use
 
+-- the block at the front of what is left
+pub block_front : (t block : List ℕ) (here left : ℕ) → block ≡ take 16 (take (length t - here) (drop here t)) → left + 16 ≡ length (take (length t - here) (drop here t)) →
+    (block ≡ take 16 (drop here t)) × (16 ≤ length t - here)
+block_front t block here left is long =
+    let l : length (drop here t) ≡ length t - here = length-drop here t in
+    let whole : take (length t - here) (drop here t) ≡ drop here t = take_all (length t - here) (drop here t) (omega arith) in
+    (rw whole at is, let n : left + 16 ≡ length (drop here t) = rw whole at long in omega arith)
+
 pub passes_to : (u : List ℕ) (line start next number : ℕ) → ResumesLines u 0 line start number → next ≡ start → ResumesLines u 0 line next number
 passes_to u line start next number p e = rw e p
 

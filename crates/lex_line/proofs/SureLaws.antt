@@ -251,12 +251,25 @@ sure_whole t i r end room h few many a inv =
     let e : r ≡ 8 = omega arith in
     ap (λ (k : ℕ). run_end (is_content comment_byte) t (i + k)) (sym e) ∙ sure_on t i r end room h few a inv
 
--- the bounds that the sums and differences of the code need
-pub low_fits : (w : ℕ) → bit_and w 0x7f7f_7f7f_7f7f_7f7f ≤ 0x7f7f_7f7f_7f7f_7f7f
-low_fits w = and_le_r w 0x7f7f_7f7f_7f7f_7f7f
+-- the same for what is left of a text, whose first eight bytes they are
+module _ (t rest eight : List ℕ) (r end : ℕ) (inside : length rest ≤ length t) (ends : rest ≡ drop (length t - length rest) t) (room : 8 ≤ length rest)
+    (is : eight ≡ take 8 rest) (few : r ≤ 8) (a : all (is_content comment_byte) (take r eight) ≡ true)
+    (inv : run_end (is_content comment_byte) t (length t - length rest) ≡ end) where
+  surely_there : all (is_content comment_byte) (take r (drop (length t - length rest) t)) ≡ true
+  surely_there =
+      let front : take r eight ≡ take r (drop (length t - length rest) t) = ap (take r) is ∙ take-take r 8 rest few ∙ ap (take r) ends in
+      rw front at a
 
-pub least_fits : (w : ℕ) → bit_and (bit_and w 0x7f7f_7f7f_7f7f_7f7f + 0x7272_7272_7272_7272) 0x8080_8080_8080_8080 ≤ 0x8080_8080_8080_8080
-least_fits w = and_le_r (bit_and w 0x7f7f_7f7f_7f7f_7f7f + 0x7272_7272_7272_7272) 0x8080_8080_8080_8080
+  pub rest_on : run_end (is_content comment_byte) t (length t - length rest + r) ≡ end
+  rest_on = sure_on t (length t - length rest) r end (omega arith) (omega arith) few surely_there inv
+
+  pub rest_behind : (behind : List ℕ) → behind ≡ drop 8 rest → 8 ≤ r →
+      (length behind ≤ length t) × (behind ≡ drop (length t - length behind) t) × (run_end (is_content comment_byte) t (length t - length behind) ≡ end)
+  rest_behind behind is_behind many =
+      let l : length behind ≡ length rest - 8 = ap length is_behind ∙ length-drop 8 rest in
+      let place : length t - length rest + 8 ≡ length t - length behind = omega arith in
+      let d : behind ≡ drop (length t - length behind) t = is_behind ∙ ap (drop 8) ends ∙ drop-drop 8 (length t - length rest) t ∙ ap (λ (i : ℕ). drop i t) place in
+      (omega arith, d, rw place at (sure_whole t (length t - length rest) r end (omega arith) (omega arith) few many surely_there inv))
 
 pub zeros_fit : (w : ℕ) → count_trailing_zeros 64 (eight_doubts w) ≤ 64
 zeros_fit w = trailing_le 64 (eight_doubts w)

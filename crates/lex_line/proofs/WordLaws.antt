@@ -1,16 +1,16 @@
 -- Laws of words: the word found at a position, and the list of words from there on.
 -- Assumes nothing.
 use mathlib.Core.Path.{◌≡◌, refl, sym, ◌∙◌, ap}
-use mathlib.Core.Bool.{Bool, true, false, not}
+use mathlib.Core.Bool.{Bool, true, false}
 use mathlib.Core.List.{List, [], ◌∷◌, map, reverse, reverse-append}
 use Prim.Native.Nat.{ℕ, suc, ◌+◌, ◌-◌, ◌≤◌, ◌<◌, min, zero-le}
-use native.Mathlib.Nat.{not-suc-le-zero, add-zero, add-suc, suc-add}
+use native.Mathlib.Nat.{not-suc-le-zero, add-zero, add-suc, suc-add, le_refl}
 use native.Mathlib.Numerals.{add-one}
 use native.Mathlib.Omega.{arith}
 use lib.ListN.{length, take, drop, get_or, length-drop, drop_of_length-le}
-use lib.Seq.{drop-drop, get_or-drop, take-suc, take-nil}
+use lib.Seq.{drop-drop, get_or-drop, take-suc, take-nil, take_all}
 use lib.Dec.{ltb}
-use borrow.Author.Tests.{not-true, not-false, ltb-true, ltb-false}
+use borrow.Author.Tests.{ltb-true, ltb-false}
 use Rattle.base.specs.If.{provided◌then◌else◌}
 use Rattle.base.specs.Bytes.{is_blank, is_filled}
 use Rattle.base.specs.Runs.{run}
@@ -123,26 +123,14 @@ pub back_zero : (p : ℕ → Bool) (s : List ℕ) → back_run p s 0 ≡ 0
 unfolding back_run
 back_zero p s = run_nil p
 
-module _ (p : ℕ → Bool) (s : List ℕ) (i end : ℕ) (t : Bool) (inv : i - back_run p s i ≡ end) (h : 0 < i) (g : i ≤ length s) (told : t ≡ p (get_or s (i - 1) 0)) where
-  back_at : back_run p s i ≡ run p (get_or s (i - 1) 0 ∷ reverse (take (i - 1) s))
-  back_at =
-      let e : suc (i - 1) ≡ i = omega arith in
-      let l : i - 1 < length s = omega arith in
-      rw e at (back_cons p s (i - 1) l)
+-- the run before the end of all bytes, and before a position as before the end of the bytes up to there
+pub back_whole : (p : ℕ → Bool) (s : List ℕ) → run p (reverse s) ≡ back_run p s (length s)
+unfolding back_run
+back_whole p s = ap (λ (u : List ℕ). run p (reverse u)) (sym (take_all (length s) s (le_refl (length s))))
 
-  pub back_on : not t ≡ false → i - 1 - back_run p s (i - 1) ≡ end
-  unfolding back_run
-  back_on e =
-      let b : back_run p s i ≡ suc (back_run p s (i - 1)) = back_at ∙ run_goes p _ _ (sym told ∙ not-false t e) in
-      omega arith
-
-  pub back_stop : not t ≡ true → i ≡ end
-  back_stop e =
-      let b : back_run p s i ≡ 0 = back_at ∙ run_stops p _ _ (sym told ∙ not-true t e) in
-      omega arith
-
-pub back_past : (p : ℕ → Bool) (s : List ℕ) (i end : ℕ) → i - back_run p s i ≡ end → i ≤ 0 → i ≡ end
-back_past p s i end inv h = omega arith
+pub back_front : (p : ℕ → Bool) (s : List ℕ) (from : ℕ) → back_run p (take from s) (length (take from s)) ≡ back_run p s from
+unfolding back_run
+back_front p s from = sym (back_whole p (take from s))
 
 -- ---- the words of a line, as their bytes
 

@@ -1,6 +1,6 @@
 // Short ways through bytes: content by eight bytes, words compared by sixteen, rules 2 to 4 over many short lines at once.
 // Each says only what it knows, and the plain function of lib.rt goes on from there.
-ghost use Rattle.std.specs.Prelude.{◌≡◌, true, false, ◌+◌, ◌-◌, ◌<◌, ◌≤◌, length, take, drop, eqb};
+ghost use Rattle.std.specs.Prelude.{◌≡◌, true, false, ◌+◌, ◌-◌, ◌<◌, ◌≤◌, length, take, eqb};
 ghost use Rattle.base.specs.Runs.{same, all};
 ghost use Rattle.base.specs.Way.Class.{run_end};
 ghost use Rattle.base.specs.Bytes.{is_before, is_content};
@@ -9,10 +9,8 @@ ghost use Rattle.lex_line.specs.Way.LineFeeds.{line_feed_of, line_feeds, is_line
 ghost use Rattle.lex_line.specs.Lines.{comment_byte};
 ghost use Rattle.base.specs.If.{provided◌then◌else◌};
 
-use base::Class;
-
-// How many bytes are tested together, of names and of lines.
-const BLOCK: usize = 16;
+use base::class::{Before, ByteClass, Printed};
+use base::fast::BLOCK;
 
 // How many bytes of a line are read as one number.
 const EIGHT: usize = 8;
@@ -23,11 +21,10 @@ const SHORT: usize = 64;
 // How many of eight bytes, counted from the first, are surely content. The bytes are read as one number. In each byte,
 // the low seven bits plus 0x72 set the eighth bit from 14 on; plus 0x04 they set it from `|` on. A byte between the two
 // is content. Any other byte may or may not be.
-fn content_of_eight(text: &[u8], at: usize) -> usize
-    requires { at + 8 ≤ length text.now }
-    ensures { (result ≤ 8) × (all (is_content comment_byte) (take result (drop at text.now)) ≡ true) }
+fn content_of_eight(eight: &[u8; EIGHT]) -> usize
+    ensures { (result ≤ 8) × (all (is_content comment_byte) (take result eight.now) ≡ true) }
 {
-    let low = base::fast::eight_at(text, at) & 0x7f7f_7f7f_7f7f_7f7f;
+    let low = base::fast::eight_at(eight, 0) & 0x7f7f_7f7f_7f7f_7f7f;
     let least = (low + 0x7272_7272_7272_7272) & 0x8080_8080_8080_8080;
     let beyond = (low + 0x0404_0404_0404_0404) & 0x8080_8080_8080_8080;
     let doubt = (0x8080_8080_8080_8080 - least) | beyond;
@@ -40,51 +37,47 @@ pub fn skip_content(text: &[u8], from: usize) -> usize
     requires { from ≤ length text.now }
     ensures { run_end (is_content comment_byte) text.now result ≡ run_end (is_content comment_byte) text.now from }
 {
-    let mut i = from;
-    while EIGHT <= text.len() - i {
-        let sure = content_of_eight(text, i);
+    let mut rest = &text[from..];
+    while let Some((eight, behind)) = rest.split_first_chunk::<EIGHT>() {
+        let sure = content_of_eight(eight);
         if sure < EIGHT {
-            return i + sure;
+            return text.len() - rest.len() + sure;
         }
-        i += EIGHT;
+        rest = behind;
     }
-    i
+    text.len() - rest.len()
 }
 
-// Whether two words have the same sixteen bytes from `from` on. The loop compares every byte, without an early exit, so
-// that a processor can compare them at once.
-fn same_block(a: &[u8], b: &[u8], from: usize) -> bool
-    requires { (from + 16 ≤ length a.now) × (length a.now ≡ length b.now) }
-    ensures { result ≡ same (take 16 (drop from a.now)) (take 16 (drop from b.now)) }
+// Whether two blocks have the same bytes. The loop compares every byte, without an early exit, so that a processor can
+// compare them at once.
+fn same_block(a: &[u8; BLOCK], b: &[u8; BLOCK]) -> bool
+    ensures { result ≡ same a.now b.now }
 {
-    let end = from + BLOCK;
     let mut whole = true;
-    let mut i = from;
-    while i < end {
-        whole = base::and(whole, a[i] == b[i]);
-        i += 1;
+    for i in 0..BLOCK {
+        whole &= a[i] == b[i];
     }
     whole
 }
 
-// Compares two words of one length by blocks of sixteen bytes. Returns a position before which their bytes are the
-// same: the start of the first block that differs, or the end of the last whole block.
-pub fn same_blocks(a: &[u8], b: &[u8]) -> usize
+// Whether two words of one length have the same bytes, compared block by block.
+pub fn same_by_blocks(a: &[u8], b: &[u8]) -> bool
     requires { length a.now ≡ length b.now }
-    ensures { (result ≤ length a.now) × (same (drop result a.now) (drop result b.now) ≡ same a.now b.now) }
+    ensures { result ≡ same a.now b.now }
 {
-    if a.len() < BLOCK {
-        return 0;
-    }
-    let last = a.len() - BLOCK;
-    let mut i = 0;
-    while i <= last {
-        if !same_block(a, b, i) {
-            return i;
+    let mut left = a;
+    let mut right = b;
+    while let (Some((x, behind_x)), Some((y, behind_y))) = (
+        left.split_first_chunk::<BLOCK>(),
+        right.split_first_chunk::<BLOCK>(),
+    ) {
+        if !same_block(x, y) {
+            return false;
         }
-        i += BLOCK;
+        left = behind_x;
+        right = behind_y;
     }
-    i
+    left == right
 }
 
 // Whether two words of one length differ in one of their last three bytes. Numbered names, such as A101 and A102, do.
@@ -109,53 +102,33 @@ pub fn has_other_end(a: &[u8], b: &[u8]) -> bool
 fn line_feed_of(b: u8) -> u8
     ensures { result ≡ line_feed_of b }
 {
-    if b == crate::LINE_FEED {
-        return 1;
-    }
-    0
+    u8::from(b == crate::LINE_FEED)
 }
 
-// How many of sixteen bytes are LFs. The loop tests every byte, so that a processor can test them at once.
-fn line_feeds_in(text: &[u8], from: usize) -> u8
-    requires { from + 16 ≤ length text.now }
-    ensures { result ≡ line_feeds (take 16 (drop from text.now)) }
+// How many bytes of a block are LFs. The loop tests every byte, so that a processor can test them at once.
+fn line_feeds_in(block: &[u8; BLOCK]) -> u8
+    ensures { result ≡ line_feeds block.now }
 {
-    let end = from + BLOCK;
     let mut count = 0;
-    let mut i = from;
-    while i < end {
-        count += line_feed_of(text[i]);
-        i += 1;
+    for b in block {
+        count += line_feed_of(*b);
     }
     count
 }
 
 // A byte that a line may contain, or an LF.
-fn is_line_byte(b: u8) -> bool
-    ensures { result ≡ is_line_byte b }
-{
-    if b == crate::LINE_FEED {
-        return true;
+#[derive(Clone, Copy)]
+struct LineByte;
+
+impl ByteClass for LineByte {
+    ghost holds = { λ _ b. is_line_byte b };
+
+    fn contains(self, b: u8) -> bool {
+        b == crate::LINE_FEED || Printed.contains(b)
     }
-    base::in_class(Class::Printed, b)
 }
 
-// Whether sixteen bytes are all line bytes. Again the loop tests every byte.
-fn are_line_bytes(text: &[u8], from: usize) -> bool
-    requires { from + 16 ≤ length text.now }
-    ensures { result ≡ all is_line_byte (take 16 (drop from text.now)) }
-{
-    let end = from + BLOCK;
-    let mut whole = true;
-    let mut i = from;
-    while i < end {
-        whole = base::and(whole, is_line_byte(text[i]));
-        i += 1;
-    }
-    whole
-}
-
-// How far lines have been skipped: the position, and the number of the line there.
+// How far lines have been passed: the position, and the number of the line there.
 #[derive(Clone, Copy)]
 pub struct Past {
     pub at: usize,
@@ -183,22 +156,17 @@ fn past_ends(text: &[u8], line: u64, most: usize) -> Past
     let mut here = 0;
     let mut mark = 0;
     let mut count = line;
-    while BLOCK <= text.len() - here {
-        if !are_line_bytes(text, here) {
-            return Past {
-                at: mark,
-                line: count,
-            };
+    // The place is counted: `mark` and the bound `most` speak of places.
+    while let Some((block, _)) = text[here..].split_first_chunk::<BLOCK>() {
+        if !base::fast::is_block(LineByte, block) {
+            break;
         }
-        let ends = line_feeds_in(text, here);
-        count += ends as u64;
+        let ends = line_feeds_in(block);
+        count += u64::from(ends);
         here += BLOCK;
         mark = last_end(mark, here, ends);
         if most < here - mark {
-            return Past {
-                at: mark,
-                line: count,
-            };
+            break;
         }
     }
     Past {
@@ -214,7 +182,7 @@ fn past_short(text: &[u8], line: u64, most: usize) -> Past
 {
     let past = past_ends(text, line, most);
     Past {
-        at: crate::skip_back(Class::Before(crate::LINE_FEED), text, past.at),
+        at: crate::skip_back(Before(crate::LINE_FEED), text, past.at),
         line: past.line,
     }
 }

@@ -1,17 +1,17 @@
 // Lines, words, and the rules about bytes: document 000, section 3; document 01, "Lines and keywords" and rules 1 to 4.
 #![tactic(auto)]
 
-ghost use Rattle.std.specs.Prelude.{◌≡◌, true, false, ◌+◌, ◌-◌, ◌<◌, ◌≤◌, length};
+ghost use Rattle.std.specs.Prelude.{◌≡◌, false, ◌+◌, ◌-◌, ◌<◌, ◌≤◌, length};
 ghost use Rattle.base.specs.Runs.{same};
 ghost use Rattle.lex_line.specs.Way.LineEnds.{line_at, terminator_at};
-ghost use Rattle.base.specs.Way.Class.{in_class, run_end};
+ghost use Rattle.base.specs.Way.Class.{run_end};
 ghost use Rattle.base.specs.Bytes.{is_before, is_content};
 ghost use Rattle.lex_line.specs.Words.{back_run, words, first_of, to_equals};
 ghost use Rattle.lex_line.specs.Way.Spans.{word_span, last_word, first_two_of, marked_by};
 ghost use Rattle.lex_line.specs.ByteRules.{byte_rules};
 ghost use Rattle.lex_line.specs.Way.Resumes.{ResumesAfterLine};
 
-use base::Class;
+use base::class::{Before, Blank, ByteClass, Content, Filled, Printed};
 
 pub mod fast;
 
@@ -55,20 +55,6 @@ pub enum Checked {
     Refused(u64, u64),
 }
 
-// Where the content that starts at `from` ends, found byte by byte.
-fn past_rest(text: &[u8], from: usize, comment: u8) -> usize
-    ensures { result ≡ run_end (is_content comment) text.now from }
-{
-    let mut i = from;
-    while i < text.len() {
-        if !base::in_class(Class::Content(comment), text[i]) {
-            return i;
-        }
-        i += 1;
-    }
-    i
-}
-
 // Where the content of the line at `at` ends. Many lines have no content, so the first byte is tested on its own.
 fn past_content(text: &[u8], at: usize, comment: u8) -> usize
     ensures { result ≡ run_end (is_content comment) text.now at }
@@ -76,13 +62,13 @@ fn past_content(text: &[u8], at: usize, comment: u8) -> usize
     if text.len() <= at {
         return at;
     }
-    if !base::in_class(Class::Content(comment), text[at]) {
+    if !Content(comment).contains(text[at]) {
         return at;
     }
     if comment != COMMENT {
-        return past_rest(text, at, comment);
+        return base::skip(Content(comment), text, at);
     }
-    past_rest(text, fast::skip_content(text, at), COMMENT)
+    base::skip(Content(COMMENT), text, fast::skip_content(text, at))
 }
 
 // The position of the first LF at or after `from`, or the end of the text if there is none. The next byte is tested
@@ -99,7 +85,7 @@ fn feed_from(text: &[u8], from: usize) -> usize
     if base::byte_at(text, from + 1) == LINE_FEED {
         return from + 1;
     }
-    base::fast::skip_far(Class::Before(LINE_FEED), text, from)
+    base::fast::skip_far(Before(LINE_FEED), text, from)
 }
 
 // The line that starts at `at` and whose content ends at `content`.
@@ -144,28 +130,32 @@ pub fn word_at(s: &[u8], from: usize) -> Span
     }
 }
 
-// Where the run of a class that ends at `from` starts.
-fn skip_back(class: Class, s: &[u8], from: usize) -> usize
-    requires { from ≤ length s.now }
-    ensures { result ≡ from - back_run (in_class class) s.now from }
+// How many bytes at the end are in a class.
+fn end_length<C: ByteClass>(class: C, s: &[u8]) -> usize
+    ensures length { result ≡ back_run (C.holds class) s.now (length s.now) }
+    ensures inside { result ≤ length s.now }
 {
-    let mut i = from;
-    while 0 < i {
-        if !base::in_class(class, s[i - 1]) {
-            return i;
-        }
-        i -= 1;
-    }
-    i
+    s.iter()
+        .rev()
+        .position(|b| !class.contains(*b))
+        .unwrap_or(s.len())
+}
+
+// Where the run of a class that ends at `from` starts.
+fn skip_back<C: ByteClass>(class: C, s: &[u8], from: usize) -> usize
+    requires { from ≤ length s.now }
+    ensures { result ≡ from - back_run (C.holds class) s.now from }
+{
+    from - end_length(class, &s[..from])
 }
 
 // The last word of a line, or an empty span at 0 if there is none.
 pub fn last_word(s: &[u8]) -> Span
     ensures { result ≡ last_word s.now }
 {
-    let end = skip_back(Class::Blank, s, s.len());
+    let end = skip_back(Blank, s, s.len());
     Span {
-        start: skip_back(Class::Filled, s, end),
+        start: skip_back(Filled, s, end),
         end,
     }
 }
@@ -180,14 +170,7 @@ pub fn same_bytes(a: &[u8], b: &[u8]) -> bool
     if fast::has_other_end(a, b) {
         return false;
     }
-    let mut i = fast::same_blocks(a, b);
-    while i < a.len() {
-        if a[i] != b[i] {
-            return false;
-        }
-        i += 1;
-    }
-    true
+    fast::same_by_blocks(a, b)
 }
 
 // The length of the terminator at `i`: 1 for LF, 2 for CR LF, 0 for none.
@@ -228,7 +211,7 @@ fn line_check(text: &[u8], at: usize) -> LineCheck
             next: at + 1,
         };
     }
-    let stop = base::fast::skip_printed(text, at);
+    let stop = base::fast::skip_far(Printed, text, at);
     let terminator = terminator_at(text, stop);
     let next = stop + terminator;
     let characters = stop - at;
@@ -268,6 +251,7 @@ pub fn check_bytes(text: &[u8]) -> Checked
     }
     let mut at = 0;
     let mut line = 1;
+    // No for: each turn finds where the next line starts.
     while at < text.len() {
         let check = line_check(text, at);
         if check.rule != 0 {
@@ -337,5 +321,5 @@ pub fn first_word(s: &[u8]) -> &[u8]
 pub fn equals_at(content: &[u8]) -> usize
     ensures { result ≡ to_equals content.now }
 {
-    base::skip(Class::Before(b'='), content, 0)
+    base::skip(Before(b'='), content, 0)
 }

@@ -4,10 +4,11 @@ use mathlib.Core.Path.{◌≡◌, refl, sym, ◌∙◌, ap}
 use mathlib.Core.Bool.{Bool, true, false, not}
 use mathlib.Core.List.{List}
 use Prim.Native.Nat.{ℕ, suc, ◌+◌, ◌-◌, ◌≤◌, ◌<◌, min}
+use native.Mathlib.Nat.{add-zero}
 use native.Mathlib.Numerals.{add-one}
 use native.Mathlib.Omega.{arith}
-use lib.ListN.{length, drop, get_or, drop_of_length-le}
-use lib.Seq.{drop-cons}
+use lib.ListN.{length, take, drop, get_or, length-drop, drop_of_length-le}
+use lib.Seq.{drop-cons, take_all}
 use lib.Dec.{eqb}
 use borrow.Author.Tests.{eq-eqb, ne_eqb, leb-true, not-true, not-false}
 use Rattle.base.specs.If.{provided◌then◌else◌}
@@ -19,13 +20,13 @@ use Rattle.lex_number.specs.Way.Capped.{size_cap, capped_digits, CutDigits}
 use Rattle.lex_number.proofs.CappedLaws.{scan_goes, scan_stops, scan_ends, scan_cut, kept_cut}
 
 module _ (d : Digits) (b : ℕ) (t : Bool) (told : t ≡ is_digit b) where
-  pub goes_digit : t ≡ true → true ≡ digits_go_on d b
+  pub goes_digit : t ≡ true → t ≡ digits_go_on d b
   unfolding digits_go_on
-  goes_digit e = sym (either_left _ _ (sym told ∙ e))
+  goes_digit e = e ∙ sym (either_left _ _ (sym told ∙ e))
 
-  pub goes_not : t ≡ false → (b ≡ 46 → ⊥) → false ≡ digits_go_on d b
+  pub goes_not : t ≡ false → (b ≡ 46 → ⊥) → eqb b 46 ≡ digits_go_on d b
   unfolding digits_go_on is_point
-  goes_not e n = sym (either_false _ _ (sym told ∙ e) (both_not_left _ _ (ne_eqb b 46 n)))
+  goes_not e n = ne_eqb b 46 n ∙ sym (either_false _ _ (sym told ∙ e) (both_not_left _ _ (ne_eqb b 46 n)))
 
   pub goes_point : t ≡ false → b ≡ 46 → not d.point ≡ digits_go_on d b
   unfolding digits_go_on is_point
@@ -89,12 +90,15 @@ module _ (s : List ℕ) (from : ℕ) (d : Digits) (told : d ≡ no_digits from) 
   pub start_kept : CutDigits d
   start_kept = rw told (kept_none from)
 
-  pub start_end : d.end ≡ from
+  pub start_end : d.end ≡ from + 0
   unfolding no_digits
-  start_end = rw told
+  start_end = rw (told, add-zero from)
 
-  pub start_same : capped_digits (scan (drop from s) d) ≡ capped_digits (scan (drop from s) (no_digits from))
-  start_same = rw told
+  -- the loop reads the bytes of `&s[from..]`
+  pub start_same : capped_digits (scan (take (length s - from) (drop from s)) d) ≡ capped_digits (scan (drop from s) (no_digits from))
+  start_same =
+      let e : take (length s - from) (drop from s) ≡ drop from s = take_all (length s - from) (drop from s) (omega (arith, length-drop from s)) in
+      rw (e, told)
 
 counts_point : (d : Digits) → CutDigits d → CutDigits (capped_digits (with_point d))
 unfolding capped_digits with_point
@@ -118,8 +122,10 @@ pub ends_next : (d : Digits) (b : ℕ) → (capped_digits (with_byte d b)).end �
 unfolding capped_digits with_byte with_point with_digit
 ends_next d b = by_test (λ (x : Digits). x.end ≡ d.end + 1) (is_point b) _ _ (λ t. refl) (λ t. refl)
 
-pub end_next : (d next : Digits) (b i : ℕ) → next ≡ capped_digits (with_byte d b) → d.end ≡ i → next.end ≡ i + 1
-end_next d next b i e h = rw (e, ends_next d b, h)
+pub end_next : (d next : Digits) (b from i : ℕ) → next ≡ capped_digits (with_byte d b) → d.end ≡ from + i → next.end ≡ from + (i + 1)
+end_next d next b from i e h =
+    let n : next.end ≡ d.end + 1 = ap (λ (x : Digits). x.end) e ∙ ends_next d b in
+    omega arith
 
 -- the invariant of the loop over bytes: reading on from position i with the digits d gives the whole
 module _ (s : List ℕ) (i : ℕ) (d whole : Digits) (inv : capped_digits (scan (drop i s) d) ≡ whole) where
@@ -137,6 +143,3 @@ module _ (s : List ℕ) (i : ℕ) (d whole : Digits) (inv : capped_digits (scan 
   digits_on t next h told on e =
       let f : scan (drop i s) d ≡ scan (drop (suc i) s) (with_byte d (get_or s i 0)) = rw (drop-cons s i 0 h) (scan_goes (get_or s i 0) (drop (suc i) s) d (sym told ∙ not-false t on)) in
       rw (add-one i, e) (scan_cut (drop (suc i) s) (with_byte d (get_or s i 0)) ∙ ap capped_digits (sym f) ∙ inv)
-
-pub goes_told : (t : Bool) (d : Digits) (b : ℕ) → t ≡ digits_go_on d b → not t ≡ false → digits_go_on d b ≡ true
-goes_told t d b e on = sym e ∙ not-false t on

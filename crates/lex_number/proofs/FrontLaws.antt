@@ -21,11 +21,10 @@ use Rattle.base.proofs.RunLaws.{run_goes, run_stops, run_nil, run_on, run_le, ru
 use Rattle.lex_number.specs.declared.Digits.{Digits}
 use Rattle.lex_number.specs.declared.Exponent.{Exponent}
 use Rattle.lex_number.specs.declared.Scale.{Scale}
-use Rattle.lex_number.specs.declared.Number.{Number}
+use Rattle.lex_number.specs.Number.{Number, is_sign, is_minus, is_point, is_e, past_sign, no_digits, digits_go_on, with_byte, scan, exponent_at, exponent_of, power_in, scale_by, scale_of, raised, lowered, value_as, well_formed, number_from, digits_of, exponent_from, number_of}
 use Rattle.lex_number.specs.declared.fast.Plain.{Plain}
 use Rattle.lex_number.specs.declared.fast.Reading.{Reading}
 use Rattle.lex_number.specs.declared.fast.Parts.{Parts}
-use Rattle.lex_number.specs.Number.{is_sign, is_minus, is_point, is_e, past_sign, no_digits, digits_go_on, with_byte, scan, exponent_at, exponent_of, power_in, scale_by, scale_of, raised, lowered, value_as, well_formed, number_from, digits_of, exponent_from, number_of}
 use Rattle.lex_number.specs.Way.In.{is_spelling}
 use Rattle.lex_number.specs.Way.At.{plain_at, reading_at, parts_at, DigitsRead, ExponentRead, PartsRead, Says}
 use Rattle.lex_number.proofs.CappedLaws.{scan_goes, scan_stops, scan_ends}

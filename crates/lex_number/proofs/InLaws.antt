@@ -7,6 +7,7 @@ use mathlib.Core.Logic.{◌⊎◌, inl, inr}
 use Prim.Native.Nat.{ℕ, suc, ◌+◌, ◌-◌, ◌≤◌, ◌<◌}
 use native.Mathlib.Nat.{add-zero}
 use native.Mathlib.Omega.{arith}
+use Rattle.std.proofs.Common.{Some, Err}
 use lib.ListN.{length, take, drop, get_or, length-drop, drop_of_length-le}
 use lib.Seq.{take_all}
 use lib.Dec.{eqb, ltb}
@@ -17,34 +18,32 @@ use Rattle.base.specs.Runs.{run}
 use Rattle.base.specs.Way.Class.{run_end}
 use Rattle.base.proofs.IfLaws.{if_true, if_false, by_cases, both_true, both_not_left, both_rest, either_false}
 use Rattle.base.proofs.RunLaws.{run_on, run_stop}
-use Rattle.lex_number.specs.declared.Number.{Number}
-use Rattle.lex_number.specs.declared.Number.TheVariants.{Malformed}
+use Rattle.lex_number.specs.Number.{Number, is_sign, scale_of, number_of}
+use Rattle.lex_number.specs.declared.NumberError.TheVariants.{Malformed}
 use Rattle.lex_number.specs.declared.NumberAt.{NumberAt}
-use Rattle.lex_number.specs.declared.fast.ShortNumber.{ShortNumber}
 use Rattle.lex_number.specs.declared.fast.Parts.{Parts}
 use Rattle.lex_number.specs.declared.Scale.{Scale}
-use Rattle.lex_number.specs.Number.{is_sign, scale_of, number_of}
 use Rattle.lex_number.specs.Way.At.{PartsRead, Says}
 use Rattle.lex_number.specs.Way.In.{is_word, is_spelling, number_in, Knows}
 use Rattle.lex_number.proofs.FrontLaws.{word, none_letter, plain_here, scaled_here}
 use Rattle.lex_number.proofs.InLineLaws.{number_nothing}
 
-pub no_content : (comment b : ℕ) (t : Bool) → t ≡ is_content comment b → not t ≡ true → false ≡ is_word comment b
+pub no_content : (comment b : ℕ) (t : Bool) → t ≡ is_content comment b → t ≡ false → t ≡ is_word comment b
 unfolding is_word
-no_content comment b t told e = sym (both_not_left _ _ (sym told ∙ not-true t e))
+no_content comment b t told e = e ∙ sym (both_not_left _ _ (sym told ∙ e))
 
-pub content_filled : (comment b : ℕ) (t r : Bool) → t ≡ is_content comment b → not t ≡ false → r ≡ is_filled b → r ≡ is_word comment b
+pub content_filled : (comment b : ℕ) (t r : Bool) → t ≡ is_content comment b → t ≡ true → r ≡ is_filled b → r ≡ is_word comment b
 unfolding is_word
-content_filled comment b t r told e filled = filled ∙ sym (both_rest _ _ (sym told ∙ not-false t e))
+content_filled comment b t r told e filled = filled ∙ sym (both_rest _ _ (sym told ∙ e))
 
-pub no_word : (s : List ℕ) (at comment : ℕ) → length s ≤ at → false ≡ both (ltb at (length s)) (is_word comment (get_or s at 0))
-no_word s at comment h = sym (both_not_left _ _ (le-ltb at (length s) h))
+pub no_word : (s : List ℕ) (at comment : ℕ) → length s ≤ at → ltb at (length s) ≡ both (ltb at (length s)) (is_word comment (get_or s at 0))
+no_word s at comment h = le-ltb at (length s) h ∙ sym (both_not_left _ _ (le-ltb at (length s) h))
 
 pub word_there : (s : List ℕ) (at comment : ℕ) (r : Bool) → at < length s → r ≡ is_word comment (get_or s at 0) →
     r ≡ both (ltb at (length s)) (is_word comment (get_or s at 0))
 word_there s at comment r h e = e ∙ sym (both_rest _ _ (lt-ltb at (length s) h))
 
-pub in_past : (comment : ℕ) (s : List ℕ) (from : ℕ) → length s ≤ from → record { number = Malformed; end = from } ≡ number_in comment s from
+pub in_past : (comment : ℕ) (s : List ℕ) (from : ℕ) → length s ≤ from → record { number = Err Malformed; end = from } ≡ number_in comment s from
 unfolding number_in run
 in_past comment s from h = rw (drop_of_length-le s h, add-zero from, number_nothing)
 
@@ -54,19 +53,6 @@ unfolding number_in
 in_is comment s from end number e f =
     let n : end - from ≡ run (is_word comment) (drop from s) = omega arith in
     rw (rw n at f, e)
-
--- the same for `&s[0..]`, a slice that is the whole text
-pub far_is : (comment : ℕ) (s : List ℕ) (from : ℕ) (r : NumberAt) → r ≡ number_in comment (take (length s - 0) (drop 0 s)) from → record { number = r.number; end = r.end } ≡ number_in comment s from
-far_is comment s from r e =
-    let w : take (length s - 0) (drop 0 s) ≡ s = take_all (length s - 0) s (omega arith) in
-    rw w at e
-
--- an answer that is not known, and one that is
-pub unknown_knows : (comment : ℕ) (s : List ℕ) (from : ℕ) (r : ShortNumber) → r.known ≡ false → Knows comment s from r
-unknown_knows comment s from r f = record { knows = λ (e : r.known ≡ true). absurd (true≢false (sym e ∙ f)) }
-
-pub near_is : (comment : ℕ) (s : List ℕ) (from : ℕ) (r : ShortNumber) → Knows comment s from r → r.known ≡ true → record { number = r.number; end = r.end } ≡ number_in comment s from
-near_is comment s from r told e = told.knows e
 
 -- ---- no byte that numbers are written with ends a word
 
@@ -122,11 +108,11 @@ module _ (comment : ℕ) (s : List ℕ) (from : ℕ) (quiet : is_spelling commen
       let e : take (length s - from) (drop from s) ≡ drop from s = take_all (length s - from) (drop from s) (omega arith) in
       rw e at read
 
-  known : (number : Number) (end : ℕ) → (number ≡ number_of (word (is_word comment) (drop from s))) × (end ≡ run_end (is_word comment) s from) → Knows comment s from (record { known = true; number = number; end = end })
+  known : (number : Number) (end : ℕ) → (number ≡ number_of (word (is_word comment) (drop from s))) × (end ≡ run_end (is_word comment) s from) → Knows comment s from (Some (record { number = number; end = end }))
   unfolding number_in word
-  known number end e = record { knows = λ (k : true ≡ true). rw (e.0, e.1) }
+  known number end e = rw (e.0, e.1)
 
-  pub number_plain : (t : Bool) (r : Number) → t ≡ is_word comment p.next → t ≡ false → not p.digits.some ≡ false → Says p (record { up = 0; down = 0 }) r → Knows comment s from (record { known = true; number = r; end = from + p.exponent.end })
+  pub number_plain : (t : Bool) (r : Number) → t ≡ is_word comment p.next → t ≡ false → not p.digits.some ≡ false → Says p (record { up = 0; down = 0 }) r → Knows comment s from (Some (record { number = r; end = from + p.exponent.end }))
   number_plain t r told off n v =
       known r (from + p.exponent.end) (plain_here (is_word comment) (λ (b : ℕ) (e : is_word comment b ≡ false). outside comment b quiet e) s from (omega arith) p rest_read r (sym told ∙ off) n v)
 
@@ -142,18 +128,18 @@ module _ (comment : ℕ) (s : List ℕ) (from : ℕ) (quiet : is_spelling commen
         let l : near ≤ from + p.exponent.end + 1 + 1 = past_near s (from + p.exponent.end + 1) near behind past in
         omega arith
 
-    scaled : (end : ℕ) (scale : Scale) (r : Number) → end ≡ run_end is_letter s (from + p.exponent.end + 1) → ((length s ≤ end) ⊎ (is_word comment (get_or s end 0) ≡ false)) → scale ≡ scale_of p.next → not p.digits.some ≡ false → Says p scale r → Knows comment s from (record { known = true; number = r; end = end })
+    scaled : (end : ℕ) (scale : Scale) (r : Number) → end ≡ run_end is_letter s (from + p.exponent.end + 1) → ((length s ≤ end) ⊎ (is_word comment (get_or s end 0) ≡ false)) → scale ≡ scale_of p.next → not p.digits.some ≡ false → Says p scale r → Knows comment s from (Some (record { number = r; end = end }))
     scaled end scale r ends over told n v =
         known r end (scaled_here (is_word comment) (λ (c : ℕ) (e : is_word comment c ≡ false). outside comment c quiet e) s from (omega arith) p rest_read (sym letter ∙ not-false b on) end scale r ends over told n v)
 
     -- the word ends after one letter or two
-    pub scaled_short : (t : Bool) (scale : Scale) (r : Number) → t ≡ is_word comment (get_or s near 0) → not t ≡ true → scale ≡ scale_of p.next → not p.digits.some ≡ false → Says p scale r → Knows comment s from (record { known = true; number = r; end = near })
+    pub scaled_short : (t : Bool) (scale : Scale) (r : Number) → t ≡ is_word comment (get_or s near 0) → not t ≡ true → scale ≡ scale_of p.next → not p.digits.some ≡ false → Says p scale r → Knows comment s from (Some (record { number = r; end = near }))
     scaled_short t scale r is over told n v =
         let o : is_word comment (get_or s near 0) ≡ false = sym is ∙ not-true t over in
         scaled near scale r (past_all s (from + p.exponent.end + 1) near behind past near_there (none_letter (get_or s near 0) (outside comment (get_or s near 0) quiet o))) (inr o) told n v
 
     -- the word ends after more letters
-    pub scaled_long : (end : ℕ) (t : Bool) (scale : Scale) (r : Number) → end ≡ run_end is_letter s near → t ≡ both (ltb end (length s)) (is_word comment (get_or s end 0)) → t ≡ false → scale ≡ scale_of p.next → not p.digits.some ≡ false → Says p scale r → Knows comment s from (record { known = true; number = r; end = end })
+    pub scaled_long : (end : ℕ) (t : Bool) (scale : Scale) (r : Number) → end ≡ run_end is_letter s near → t ≡ both (ltb end (length s)) (is_word comment (get_or s end 0)) → t ≡ false → scale ≡ scale_of p.next → not p.digits.some ≡ false → Says p scale r → Knows comment s from (Some (record { number = r; end = end }))
     scaled_long end t scale r ends is over told n v = scaled end scale r (ends ∙ past_more s (from + p.exponent.end + 1) near behind past) stop told n v
       where
         stop : (length s ≤ end) ⊎ (is_word comment (get_or s end 0) ≡ false)

@@ -10,16 +10,16 @@ use Rattle.base.specs.If.{both, either, provided◌then◌else◌}
 use Rattle.base.specs.Runs.{run}
 use Rattle.base.specs.Way.Class.{run_end}
 use Rattle.base.specs.Bytes.{is_filled}
-use Rattle.lex_number.specs.declared.Number.{Number}
-use Rattle.lex_number.specs.declared.Number.TheVariants.{Malformed}
-use Rattle.lex_number.specs.Number.{is_sign, is_minus, is_point, is_e, past_sign, no_digits, digits_go_on, scan, no_exponent, exponent_of, well_formed, number_from, digits_of, exponent_from, number_of}
+use Rattle.lex_number.specs.Number.{Number, is_sign, is_minus, is_point, is_e, past_sign, no_digits, digits_go_on, scan, no_exponent, exponent_of, well_formed, number_from, digits_of, exponent_from, number_of}
+use Rattle.std.proofs.Common.{Err}
+use Rattle.lex_number.specs.declared.NumberError.TheVariants.{Malformed}
 use Rattle.lex_number.specs.Way.At.{word_from, number_at}
 
-pub number_nothing : Malformed ≡ number_of []
+pub number_nothing : (Err Malformed) ≡ number_of []
 unfolding provided◌then◌else◌ both either is_sign is_minus is_point is_e past_sign no_digits digits_go_on scan no_exponent exponent_of well_formed number_from digits_of exponent_from number_of
 number_nothing = refl
 
-pub at_past : (s : List ℕ) (from : ℕ) → length s ≤ from → record { number = Malformed; end = from } ≡ number_at s from
+pub at_past : (s : List ℕ) (from : ℕ) → length s ≤ from → record { number = Err Malformed; end = from } ≡ number_at s from
 unfolding number_at word_from run
 at_past s from h = rw (drop_of_length-le s h, add-zero from, number_nothing)
 

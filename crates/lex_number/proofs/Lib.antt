@@ -17,4 +17,5 @@ pub mod BlockLaws
 pub mod FrontLaws
 pub mod InLineLaws
 pub mod InLaws
+pub mod FlagLaws
 pub mod Starred

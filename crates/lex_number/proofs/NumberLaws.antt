@@ -16,9 +16,10 @@ use Rattle.base.specs.Bytes.{is_digit}
 use Rattle.base.proofs.IfLaws.{if_true, if_false, by_cases, by_test, either_comes, both_not_left}
 use Rattle.lex_number.specs.declared.Digits.{Digits}
 use Rattle.lex_number.specs.declared.Scale.{Scale}
-use Rattle.lex_number.specs.declared.Number.TheVariants.{Value, Malformed, Range}
+use Rattle.std.proofs.Common.{Ok, Err}
+use Rattle.lex_number.specs.declared.NumberError.TheVariants.{Malformed, Range}
 use Rattle.lex_number.specs.ValueWord.{zero_word, value_word, decimal_of, is_value_word}
-use Rattle.lex_number.specs.Number.{is_minus, is_point, past_sign, no_digits, digits_go_on, with_point, with_digit, with_byte, scan, digits_of, exponent_from, scale_of, raised, lowered, in_range, value_as, well_formed, number_from, number_of}
+use Rattle.lex_number.specs.Number.{Number, is_minus, is_point, past_sign, no_digits, digits_go_on, with_point, with_digit, with_byte, scan, digits_of, exponent_from, scale_of, raised, lowered, in_range, value_as, well_formed, number_from, number_of}
 use Rattle.lex_number.specs.Way.Capped.{raising}
 use Rattle.lex_number.proofs.CappedLaws.{scan_goes, scan_stops, scan_ends}
 use Rattle.lex_number.proofs.DigitLaws.{digit_to}
@@ -93,23 +94,23 @@ digits_shaped s = scan_shaped (drop (past_sign s 0) s) (no_digits (past_sign s 0
 unfoldable pub scale_in : List ℕ → Scale
 scale_in s = scale_of (get_or s (exponent_from s (digits_of s)).end 0)
 
-never_malformed : (P : Type 0) (w : ℕ) → Malformed ≡ Value w → P
+never_malformed : (P : Type 0) (w : ℕ) → Err Malformed ≡ Ok w → P
 never_malformed P w e = let z : ◌≡◌ {A = ℕ} 0 1 = cc in absurd (omega arith)
 
-never_range : (P : Type 0) (w : ℕ) → Range ≡ Value w → P
+never_range : (P : Type 0) (w : ℕ) → Err Range ≡ Ok w → P
 never_range P w e = let z : ◌≡◌ {A = ℕ} 0 1 = cc in absurd (omega arith)
 
-same_word_lem : (v w : ℕ) → Value v ≡ Value w → w ≡ v
+same_word_lem : (v w : ℕ) → ◌≡◌ {A = Number} (Ok v) (Ok w) → w ≡ v
 same_word_lem v w e = cc
 
 -- a number that is not zero and has a value is within its bounds, and its word is the one that the definition builds
-stands_as : (negative : Bool) (m up down w : ℕ) → (m ≡ 0 → ⊥) → value_as negative m up down ≡ Value w → Stands m up down × (w ≡ value_word negative m (up + 64 - down))
+stands_as : (negative : Bool) (m up down w : ℕ) → (m ≡ 0 → ⊥) → value_as negative m up down ≡ Ok w → Stands m up down × (w ≡ value_word negative m (up + 64 - down))
 stands_as negative m up down w n e =
     by_cases _ (in_range m up down)
     (λ (r : in_range m up down ≡ true). (stands_told m up down r, same_word_lem (value_word negative m (up + 64 - down)) w (sym (value_inside negative m up down n r) ∙ e)))
     (λ (r : in_range m up down ≡ false). never_range _ w (sym (value_outside negative m up down n r) ∙ e))
 
-value_is_word : (negative : Bool) (m up down w : ℕ) → ((m ≡ 0) ⊎ (m % 10 ≡ 0 → ⊥)) → value_as negative m up down ≡ Value w → is_value_word w ≡ true
+value_is_word : (negative : Bool) (m up down w : ℕ) → ((m ≡ 0) ⊎ (m % 10 ≡ 0 → ⊥)) → value_as negative m up down ≡ Ok w → is_value_word w ≡ true
 value_is_word negative m up down w t e =
     by_cases _ (eqb m 0)
     (λ (z : eqb m 0 ≡ true). word_zero w (same_word_lem zero_word w (sym (value_zero negative m up down (eqb-true m 0 z)) ∙ e)))
@@ -131,7 +132,7 @@ value_is_word negative m up down w t e =
         })
 
 -- if `number_of` gives a value, the number is well formed and has that value
-value_told : (s : List ℕ) (w : ℕ) → number_of s ≡ Value w → value_as (is_minus (get_or s 0 0)) (digits_of s).size (raised (digits_of s) (exponent_from s (digits_of s)) (scale_in s)) (lowered (digits_of s) (exponent_from s (digits_of s)) (scale_in s)) ≡ Value w
+value_told : (s : List ℕ) (w : ℕ) → number_of s ≡ Ok w → value_as (is_minus (get_or s 0 0)) (digits_of s).size (raised (digits_of s) (exponent_from s (digits_of s)) (scale_in s)) (lowered (digits_of s) (exponent_from s (digits_of s)) (scale_in s)) ≡ Ok w
 unfolding number_of number_from scale_in
 value_told s w e =
     by_cases _ (well_formed s (digits_of s) (exponent_from s (digits_of s)))
@@ -139,11 +140,11 @@ value_told s w e =
     (λ (t : well_formed s (digits_of s) (exponent_from s (digits_of s)) ≡ false). never_malformed _ w (sym (if_false _ _ t) ∙ e))
 
 -- the word of a number that is read is a value word
-pub number_word : (s : List ℕ) (w : ℕ) → number_of s ≡ Value w → is_value_word w ≡ true
+pub number_word : (s : List ℕ) (w : ℕ) → number_of s ≡ Ok w → is_value_word w ≡ true
 number_word s w e = value_is_word _ _ _ _ w (digits_shaped s).trimmed (value_told s w e)
 
 -- the value word of a number that is not zero contains its sign, its m and its k
-pub number_decimal : (s : List ℕ) (w : ℕ) → number_of s ≡ Value w → ((digits_of s).size ≡ 0 → ⊥) → decimal_of w ≡ record { negative = is_minus (get_or s 0 0); size = (digits_of s).size; shifted = raised (digits_of s) (exponent_from s (digits_of s)) (scale_in s) + 64 - lowered (digits_of s) (exponent_from s (digits_of s)) (scale_in s) }
+pub number_decimal : (s : List ℕ) (w : ℕ) → number_of s ≡ Ok w → ((digits_of s).size ≡ 0 → ⊥) → decimal_of w ≡ record { negative = is_minus (get_or s 0 0); size = (digits_of s).size; shifted = raised (digits_of s) (exponent_from s (digits_of s)) (scale_in s) + 64 - lowered (digits_of s) (exponent_from s (digits_of s)) (scale_in s) }
 number_decimal s w e n =
     let k : Stands (digits_of s).size (raised (digits_of s) (exponent_from s (digits_of s)) (scale_in s)) (lowered (digits_of s) (exponent_from s (digits_of s)) (scale_in s)) × (w ≡ value_word (is_minus (get_or s 0 0)) (digits_of s).size (raised (digits_of s) (exponent_from s (digits_of s)) (scale_in s) + 64 - lowered (digits_of s) (exponent_from s (digits_of s)) (scale_in s))) = stands_as _ _ _ _ w n (value_told s w e) in
     rw k.1 (decode_build _ _ _ (omega (arith, k.0.high)))
@@ -156,7 +157,7 @@ power_split all m zeros (suc rest) e =
 
 -- "the value is m times ten to the k": the digits as written, times ten to what raises them, are m times ten to the k
 -- and to what lowers them. Both sides have 64 powers of ten more, because the word stores k + 64, which is not negative
-pub number_power : (s : List ℕ) (w : ℕ) → number_of s ≡ Value w → ((digits_of s).size ≡ 0 → ⊥) → (decimal_of w).size * 10 ^ ((decimal_of w).shifted + lowered (digits_of s) (exponent_from s (digits_of s)) (scale_in s)) ≡ (digits_of s).all * 10 ^ (raising (exponent_from s (digits_of s)) + (scale_in s).up + 64)
+pub number_power : (s : List ℕ) (w : ℕ) → number_of s ≡ Ok w → ((digits_of s).size ≡ 0 → ⊥) → (decimal_of w).size * 10 ^ ((decimal_of w).shifted + lowered (digits_of s) (exponent_from s (digits_of s)) (scale_in s)) ≡ (digits_of s).all * 10 ^ (raising (exponent_from s (digits_of s)) + (scale_in s).up + 64)
 unfolding raised raising
 number_power s w e n =
     let k : Stands (digits_of s).size (raised (digits_of s) (exponent_from s (digits_of s)) (scale_in s)) (lowered (digits_of s) (exponent_from s (digits_of s)) (scale_in s)) = (stands_as _ _ _ _ w n (value_told s w e)).0 in

@@ -324,9 +324,6 @@ module _ (s : List ℕ) (small : Small 9 s) where
 
 -- ---- as `are_eight`, `eight_value`, `are_four` and `four_value` use them
 
-pub not_digits : (n word : ℕ) → AreDigits n word false
-not_digits n word = record { are_digits = λ (e : false ≡ true). absurd (true≢false (sym e)) }
-
 module _ (word : ℕ) (threes : bit_and word 0xf0f0_f0f0_f0f0_f0f0 ≡ 0x3030_3030_3030_3030) where
   eight_high : all (within 48 63) (bytes_of 8 word) ≡ true
   unfolding alike

@@ -4,7 +4,7 @@
 use mathlib.Core.Path.{◌≡◌, refl, sym, ◌∙◌, ap}
 use mathlib.Core.Bool.{Bool, true, false, not, true≢false}
 use mathlib.Core.List.{List, [], ◌∷◌}
-use Prim.Native.Nat.{ℕ, zero, suc, ◌+◌, ◌-◌, ◌*◌, ◌^◌, ◌≤◌, ◌<◌}
+use Prim.Native.Nat.{ℕ, zero, suc, ◌+◌, ◌-◌, ◌*◌, ◌^◌, ◌≤◌, ◌<◌, max}
 use mir.Syntax.{w64}
 use mir.Val.{Fits}
 use native.Mathlib.Nat.{add-zero, add-suc, le_refl, mul-one, mul-add, mul_assoc, mul_comm, mul-le-mul_right, pow-suc, pow-le-pow_right, zero-lt-suc}
@@ -13,12 +13,12 @@ use native.Mathlib.Omega.{arith}
 use lib.ListN.{length, drop, get_or, drop_of_length-le}
 use lib.Seq.{drop-cons, drop-drop}
 use lib.Dec.{eqb, ltb, leb}
-use borrow.Author.Tests.{eq-eqb, ne_eqb, le-leb, lt-leb, lt-ltb, le-ltb, leb-true, leb-false, ltb-true, ltb-false, not-true, not-false}
+use borrow.Author.Tests.{eq-eqb, ne_eqb, lt-ltb, le-ltb, leb-true, leb-false, ltb-true, ltb-false, not-true, not-false}
 use Rattle.base.specs.If.{provided◌then◌else◌, both, either}
 use Rattle.base.specs.Bytes.{is_digit, within}
 use Rattle.base.specs.Runs.{run}
 use Rattle.base.specs.Way.Class.{run_end}
-use Rattle.base.proofs.IfLaws.{if_true, if_false, by_cases, by_test, both_true, both_not_left, both_not_right, both_rest, either_left, either_right, either_rest, either_false}
+use Rattle.base.proofs.IfLaws.{if_true, if_false, by_cases, by_test, both_not_left, both_not_right, both_rest, either_left, either_right, either_rest, either_false}
 use Rattle.base.proofs.RunLaws.{run_goes, run_stops, run_nil, run_end_at, run_on, run_stop, run_past}
 use Rattle.lex_number.specs.declared.Digits.{Digits}
 use Rattle.lex_number.specs.declared.Exponent.{Exponent}
@@ -38,27 +38,6 @@ use Rattle.lex_number.proofs.TrimLaws.{power_some}
 
 power_more : (m n : ℕ) → m ≤ n → 10 ^ m ≤ 10 ^ n
 power_more m n h = pow-le-pow_right (zero-lt-suc 9) h
-
--- whether a byte is a digit, by its bounds
-module _ (b w : ℕ) (same : w ≡ b) where
-  digit_low : w < 48 → is_digit b ≡ false
-  unfolding is_digit within
-  digit_low h =
-      let k : b < 48 = omega arith in
-      both_not_left _ _ (lt-leb 48 b k)
-
-  digit_high : 9 < w - 48 → is_digit b ≡ false
-  unfolding is_digit within
-  digit_high h =
-      let k : 57 < b = omega arith in
-      both_not_right _ _ (lt-leb b 57 k)
-
-  digit_is : 48 ≤ w → w - 48 ≤ 9 → is_digit b ≡ true
-  unfolding is_digit within
-  digit_is h g =
-      let k : 48 ≤ b = omega arith in
-      let l : b ≤ 57 = omega arith in
-      both_true _ _ (le-leb 48 b k) (le-leb b 57 l)
 
 -- ---- how great a number can become up to `stop`
 
@@ -175,8 +154,8 @@ module _ (s : List ℕ) (i value : ℕ) (whole : Run) (inv : Runs s i value whol
         next_left = ap (λ (n : ℕ). get_or s n 0) m ∙ inv.next_left;
       }
 
-  pub runs_on : (w : ℕ) → w ≡ get_or s i 0 → 48 ≤ w → w - 48 ≤ 9 → Runs s (i + 1) (10 * value + (w - 48)) whole
-  runs_on w same k l = rw same (runs_digit (digit_is (get_or s i 0) w same k l))
+  pub runs_on : (t : Bool) (w : ℕ) → t ≡ is_digit (get_or s i 0) → not t ≡ false → w ≡ get_or s i 0 → Runs s (i + 1) (10 * value + (w - 48)) whole
+  runs_on t w told on same = rw same (runs_digit (sym told ∙ not-false t on))
 
 -- the end of the loop
 module _ (s : List ℕ) (from stop before i value : ℕ) (start : from ≤ i) (short : i - from ≤ stop - from) (light : weight value i stop ≤ weight before from stop) (inv : Runs s i value (run_from s from before)) where
@@ -194,15 +173,17 @@ module _ (s : List ℕ) (from stop before i value : ℕ) (start : from ≤ i) (s
   read_other : is_digit (get_or s i 0) ≡ false → RunRead s from stop before (record { value = value; end = i; next = get_or s i 0 })
   read_other t = read_halt (get_or s i 0) refl (λ (u : is_digit (get_or s i 0) ≡ true). absurd (true≢false (sym u ∙ t)))
 
-  module _ (w : ℕ) (same : w ≡ get_or s i 0) where
-    pub read_low : w < 48 → RunRead s from stop before (record { value = value; end = i; next = get_or s i 0 })
-    read_low k = read_other (digit_low (get_or s i 0) w same k)
-
-    pub read_high : 9 < w - 48 → RunRead s from stop before (record { value = value; end = i; next = get_or s i 0 })
-    read_high k = read_other (digit_high (get_or s i 0) w same k)
+  pub read_stop : (t : Bool) → t ≡ is_digit (get_or s i 0) → not t ≡ true → RunRead s from stop before (record { value = value; end = i; next = get_or s i 0 })
+  read_stop t told off = read_other (sym told ∙ not-true t off)
 
   pub read_last : (next : ℕ) → next ≡ get_or s i 0 → stop ≤ i → RunRead s from stop before (record { value = value; end = i; next = next })
   read_last next e h = read_halt next e (λ (u : is_digit next ≡ true). h)
+
+  -- the loop ends at the later of its two bounds
+  pub read_end : (end next : ℕ) → end ≡ max from stop → next ≡ get_or s end 0 → stop ≤ i → RunRead s from stop before (record { value = value; end = end; next = next })
+  read_end end next at e h =
+      let m : end ≡ i = omega arith in
+      rw m (read_last next (rw m at e) h)
 
 -- a run of no digit
 pub read_nothing : (s : List ℕ) (from stop before : ℕ) (t : Bool) → t ≡ is_digit (get_or s from 0) → not t ≡ true →

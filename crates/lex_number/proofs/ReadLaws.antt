@@ -18,9 +18,9 @@ use Rattle.base.proofs.RunLaws.{run_le}
 use Rattle.lex_number.specs.declared.Digits.{Digits}
 use Rattle.lex_number.specs.declared.Exponent.{Exponent}
 use Rattle.lex_number.specs.declared.Scale.{Scale}
-use Rattle.lex_number.specs.declared.Number.{Number}
-use Rattle.lex_number.specs.declared.Number.TheVariants.{Malformed}
-use Rattle.lex_number.specs.Number.{is_sign, is_e, is_minus, past_sign, no_digits, digits_go_on, with_byte, scan, digits_of, no_exponent, exponent_at, exponent_of, exponent_from, scale_of, raised, lowered, value_as, well_formed, number_from, number_of}
+use Rattle.lex_number.specs.Number.{Number, is_sign, is_e, is_minus, past_sign, no_digits, digits_go_on, with_byte, scan, digits_of, no_exponent, exponent_at, exponent_of, exponent_from, scale_of, raised, lowered, value_as, well_formed, number_from, number_of}
+use Rattle.std.proofs.Common.{Err}
+use Rattle.lex_number.specs.declared.NumberError.TheVariants.{Malformed}
 use Rattle.lex_number.specs.Way.Capped.{size_cap, exponent_cap, count_cap, capped_digits, capped_exponent, raising, lowering, CutDigits, BoundedNumber}
 use Rattle.lex_number.proofs.CappedLaws.{scan_goes, scan_stops, scan_ends, byte_cut, kept_cut}
 use Rattle.lex_number.proofs.DigitLaws.{kept_none, cut_next, ends_next}
@@ -142,7 +142,7 @@ module _ (s : List ℕ) (start : ℕ) (d : Digits) (x : Exponent) (sign : start 
   unfolding well_formed capped_digits capped_exponent
   formed_same = rw (digits_are, exponent_is)
 
-  pub number_malformed : (t : Bool) → t ≡ well_formed s d x → not t ≡ true → Malformed ≡ number_of s
+  pub number_malformed : (t : Bool) → t ≡ well_formed s d x → not t ≡ true → Err Malformed ≡ number_of s
   unfolding number_of number_from
   number_malformed t told stop = sym (if_false _ _ (sym formed_same ∙ sym told ∙ not-true t stop))
 

@@ -98,8 +98,6 @@ pub scale_down : (c : Scale) (b : ℕ) → c ≡ scale_of b → c.down ≤ 15
 unfolding scale_by scale_of
 scale_down c b e = rw e (above_little (neg_ℤ (power_in scalings b)) (negated_little (power_in scalings b) (power_little b)))
 
--- ---- the search
-
 -- such a power fits eight bits
 power_fits : (b : ℕ) → SFits w8 (power_in scalings b)
 power_fits b =
@@ -142,16 +140,6 @@ not_above_at (negsuc n) e = refl
 above_at : (z : ℤ) → lt_z z (pos 0) ≡ false → T (non_neg z) × (nat_abs z ≡ above_zero z)
 above_at (pos n) e = (tt, refl)
 above_at (negsuc n) e = absurd (true≢false e)
-
-module _ (z : ℤ) (fits : SFits w8 z) where
-  pub not_above : lt_z (to_z w8 (of_z w8 z)) (pos 0) ≡ true → 0 ≡ above_zero z
-  not_above e = not_above_at z (rw (to_z-of_z fits) at e)
-
-  pub above_cast : lt_z (to_z w8 (of_z w8 z)) (pos 0) ≡ false → T (non_neg (to_z w8 (of_z w8 z))) × Fits w64 (nat_abs (to_z w8 (of_z w8 z)))
-  above_cast e = rw (to_z-of_z fits) ((above_at z (rw (to_z-of_z fits) at e)).0, Fits-nat_abs tt fits)
-
-  pub above_is : lt_z (to_z w8 (of_z w8 z)) (pos 0) ≡ false → nat_abs (to_z w8 (of_z w8 z)) ≡ above_zero z
-  above_is e = rw (to_z-of_z fits) (above_at z (rw (to_z-of_z fits) at e)).1
 
 -- ---- by how much a letter raises and lowers
 

@@ -5,6 +5,8 @@ use mathlib.Core.Bool.{Bool, true, false}
 use mathlib.Core.List.{List}
 use Prim.Native.Nat.{ℕ, ◌+◌, ◌≤◌}
 use lib.ListN.{length, get_or, get_or-eq_default}
+use lib.Dec.{ltb}
+use borrow.Author.Tests.{le-ltb}
 use Rattle.base.specs.If.{either}
 use Rattle.base.proofs.IfLaws.{if_true, if_false}
 use Rattle.lex_number.specs.declared.Scale.{Scale}
@@ -15,9 +17,9 @@ pub sign_past : (s : List ℕ) (from : ℕ) → length s ≤ from → from ≡ p
 unfolding past_sign is_sign either
 sign_past s from h = sym (if_false _ _ (rw (get_or-eq_default s 0 h) refl))
 
-pub minus_past : (s : List ℕ) (at : ℕ) → length s ≤ at → false ≡ is_minus (get_or s at 0)
+pub minus_past : (s : List ℕ) (at : ℕ) → length s ≤ at → ltb at (length s) ≡ is_minus (get_or s at 0)
 unfolding is_minus
-minus_past s at h = rw (get_or-eq_default s 0 h) refl
+minus_past s at h = le-ltb at (length s) h ∙ rw (get_or-eq_default s 0 h) refl
 
 module _ (s : List ℕ) (from : ℕ) (t : Bool) (told : t ≡ is_sign (get_or s from 0)) where
   pub sign_there : t ≡ true → from + 1 ≡ past_sign s from
@@ -27,7 +29,3 @@ module _ (s : List ℕ) (from : ℕ) (t : Bool) (told : t ≡ is_sign (get_or s 
   pub sign_none : t ≡ false → from ≡ past_sign s from
   unfolding past_sign
   sign_none e = sym (if_false _ _ (sym told ∙ e))
-
--- there is no letter past the end
-pub scale_past : (s : List ℕ) (at : ℕ) (r : Scale) → length s ≤ at → r ≡ scale_of 0 → r ≡ scale_of (get_or s at 0)
-scale_past s at r h e = rw (get_or-eq_default s 0 h) e

@@ -9,20 +9,20 @@ use Prim.Native.String.{String}
 use Rattle.base.specs.If.{both, either, provided◌then◌else◌}
 use Rattle.base.specs.Bytes.{bytes, within, is_digit, is_capital, is_small, is_letter}
 use Rattle.base.specs.Runs.{run, all}
-use Rattle.lex_number.specs.declared.Number.{Number}
-use Rattle.lex_number.specs.declared.Number.TheVariants.{Value, Range}
+use Rattle.lex_number.specs.Number.{Number, is_sign, is_minus, is_point, is_e, past_sign, no_digits, digits_go_on, with_point, with_digit, with_byte, scan, no_exponent, exponent_at, exponent_of, power_in, scale_by, scale_of, raised, lowered, in_range, value_as, well_formed, number_from, digits_of, exponent_from, number_of}
+use Rattle.std.proofs.Common.{Ok, Err}
+use Rattle.lex_number.specs.declared.NumberError.TheVariants.{Range}
 use Rattle.lex_number.specs.Integer.{value_of}
 use Rattle.lex_number.specs.ValueWord.{zero_word, value_word}
-use Rattle.lex_number.specs.Number.{is_sign, is_minus, is_point, is_e, past_sign, no_digits, digits_go_on, with_point, with_digit, with_byte, scan, no_exponent, exponent_at, exponent_of, power_in, scale_by, scale_of, raised, lowered, in_range, value_as, well_formed, number_from, digits_of, exponent_from, number_of}
 
 -- m times ten to the k, for a k of at least zero; and for one of at most zero
 infix 80 ◌raised_by◌
 abbrev pub ◌raised_by◌ : ℕ → ℕ → Number
-m raised_by k = Value (value_word false m (64 + k))
+m raised_by k = Ok (value_word false m (64 + k))
 
 infix 80 ◌lowered_by◌
 abbrev pub ◌lowered_by◌ : ℕ → ℕ → Number
-m lowered_by k = Value (value_word false m (64 - k))
+m lowered_by k = Ok (value_word false m (64 - k))
 
 pub record Reading : Type 0 where
   pub word : List ℕ
@@ -41,10 +41,10 @@ starred =
     ∷ "1f" is 1 lowered_by 15
     ∷ "2e" is 2 raised_by 0
     ∷ "2e3k" is 2 raised_by 6
-    ∷ "-0.0" is Value zero_word
-    ∷ "0e500" is Value zero_word
+    ∷ "-0.0" is Ok zero_word
+    ∷ "0e500" is Ok zero_word
     ∷ "1e60" is 1 raised_by 60
-    ∷ "1e61" is Range
+    ∷ "1e61" is Err Range
     ∷ []
 
 pub starred_hold : map (λ (r : Reading). number_of r.word) starred ≡ map (λ (r : Reading). r.answer) starred

@@ -15,11 +15,10 @@ use borrow.Author.Tests.{leb-true, leb-false}
 use Rattle.base.proofs.IfLaws.{by_cases}
 use Rattle.lex_number.specs.declared.Digits.{Digits}
 use Rattle.lex_number.specs.declared.Scale.{Scale}
-use Rattle.lex_number.specs.declared.Number.{Number}
-use Rattle.lex_number.specs.declared.Number.TheVariants.{Value}
+use Rattle.lex_number.specs.Number.{Number, raised, lowered, value_as}
+use Rattle.std.proofs.Common.{Ok}
 use Rattle.lex_number.specs.declared.fast.Parts.{Parts}
 use Rattle.lex_number.specs.ValueWord.{zero_word}
-use Rattle.lex_number.specs.Number.{raised, lowered, value_as}
 use Rattle.lex_number.specs.Way.Capped.{raising, lowering}
 use Rattle.lex_number.specs.Way.At.{Splits, Says}
 use Rattle.lex_number.proofs.ValueLaws.{value_zero}
@@ -96,7 +95,7 @@ no_size size zeros e =
 -- ---- the value
 
 module _ (p : Parts) (c : Scale) where
-  pub says_zero : p.digits.all ≡ 0 → Says p c (Value zero_word)
+  pub says_zero : p.digits.all ≡ 0 → Says p c (Ok zero_word)
   says_zero z =
       record {
         says = λ (e : Digits) (a : e.all ≡ p.digits.all) (f : e.fraction ≡ p.digits.fraction) (whole : e.all ≡ e.size * 10 ^ e.zeros) (trimmed : (e.size ≡ 0) ⊎ (e.size % 10 ≡ 0 → ⊥)).

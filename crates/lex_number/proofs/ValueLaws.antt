@@ -1,7 +1,7 @@
 -- Laws of the value of a number: only letters at the end, the power of ten, and that no cap changes an answer.
 -- Assumes nothing.
 use mathlib.Core.Path.{◌≡◌, refl, sym, ◌∙◌}
-use mathlib.Core.Bool.{Bool, true, false, not}
+use mathlib.Core.Bool.{Bool, true, false}
 use mathlib.Core.List.{List}
 use mathlib.Core.Logic.{◌⊎◌, inl, inr, ⊎_elim}
 use Prim.Native.Nat.{ℕ, ◌+◌, ◌-◌, ◌≤◌, ◌<◌, min}
@@ -10,28 +10,28 @@ use mir.Val.{Fits}
 use native.Mathlib.Omega.{arith}
 use lib.ListN.{length, drop}
 use lib.Dec.{eqb}
-use borrow.Author.Tests.{eq-eqb, ne_eqb, eqb-true, eqb-false, le-leb, leb-true, lt-ltb, ltb-true, not-true, not-false}
+use borrow.Author.Tests.{eq-eqb, ne_eqb, eqb-true, eqb-false, le-leb, leb-true, lt-ltb, ltb-true}
 use Rattle.base.specs.Bytes.{is_letter}
 use Rattle.base.specs.Runs.{run}
 use Rattle.base.proofs.IfLaws.{if_true, if_false, by_cases, by_test, both_true, both_rest, both_not_left, both_first, both_second}
 use Rattle.lex_number.specs.declared.Digits.{Digits}
 use Rattle.lex_number.specs.declared.Exponent.{Exponent}
 use Rattle.lex_number.specs.declared.Scale.{Scale}
-use Rattle.lex_number.specs.declared.Number.{Number}
-use Rattle.lex_number.specs.declared.Number.TheVariants.{Value, Range}
+use Rattle.lex_number.specs.Number.{Number, raised, lowered, in_range, value_as, well_formed}
+use Rattle.std.proofs.Common.{Ok, Err}
+use Rattle.lex_number.specs.declared.NumberError.TheVariants.{Range}
 use Rattle.lex_number.specs.ValueWord.{zero_word, value_word}
-use Rattle.lex_number.specs.Number.{raised, lowered, in_range, value_as, well_formed}
 use Rattle.lex_number.specs.Way.Capped.{size_cap, exponent_cap, raising, lowering, BoundedNumber}
 use Rattle.lex_number.proofs.AllLaws.{all_from}
 
 module _ (s : List ℕ) (d : Digits) (x : Exponent) where
-  pub formed_none : not d.some ≡ true → false ≡ well_formed s d x
+  pub formed_none : d.some ≡ false → d.some ≡ well_formed s d x
   unfolding well_formed
-  formed_none e = sym (both_not_left _ _ (not-true d.some e))
+  formed_none e = e ∙ sym (both_not_left _ _ e)
 
-  pub formed_letters : (end : ℕ) → x.end ≤ length s → not d.some ≡ false → end ≡ x.end + run is_letter (drop x.end s) → eqb end (length s) ≡ well_formed s d x
+  pub formed_letters : (end : ℕ) → x.end ≤ length s → d.some ≡ true → end ≡ x.end + run is_letter (drop x.end s) → eqb end (length s) ≡ well_formed s d x
   unfolding well_formed
-  formed_letters end h e f = all_from is_letter s x.end end h f ∙ sym (both_rest _ _ (not-false d.some e))
+  formed_letters end h e f = all_from is_letter s x.end end h f ∙ sym (both_rest _ _ e)
 
 -- a number within its bounds: at most 15 digits, k from -60 to 60
 pub record Stands (m up down : ℕ) : Type 0 where
@@ -47,19 +47,19 @@ stands_range : (m up down : ℕ) → Stands m up down → in_range m up down ≡
 unfolding in_range
 stands_range m up down k = both_true _ _ (lt-ltb m size_cap k.small) (both_true _ _ (le-leb down (up + 60) k.low) (le-leb up (down + 60) k.high))
 
-pub value_zero : (negative : Bool) (m up down : ℕ) → m ≡ 0 → value_as negative m up down ≡ Value zero_word
+pub value_zero : (negative : Bool) (m up down : ℕ) → m ≡ 0 → value_as negative m up down ≡ Ok zero_word
 unfolding value_as
 value_zero negative m up down e = if_true _ _ (eq-eqb m 0 e)
 
-pub value_inside : (negative : Bool) (m up down : ℕ) → (m ≡ 0 → ⊥) → in_range m up down ≡ true → value_as negative m up down ≡ Value (value_word negative m (up + 64 - down))
+pub value_inside : (negative : Bool) (m up down : ℕ) → (m ≡ 0 → ⊥) → in_range m up down ≡ true → value_as negative m up down ≡ Ok (value_word negative m (up + 64 - down))
 unfolding value_as
 value_inside negative m up down n e = if_false _ _ (ne_eqb m 0 n) ∙ if_true _ _ e
 
-pub value_outside : (negative : Bool) (m up down : ℕ) → (m ≡ 0 → ⊥) → in_range m up down ≡ false → value_as negative m up down ≡ Range
+pub value_outside : (negative : Bool) (m up down : ℕ) → (m ≡ 0 → ⊥) → in_range m up down ≡ false → value_as negative m up down ≡ Err Range
 unfolding value_as
 value_outside negative m up down n e = if_false _ _ (ne_eqb m 0 n) ∙ if_false _ _ e
 
-pub value_stands : (negative : Bool) (m up down w : ℕ) → (m ≡ 0 → ⊥) → m < size_cap → down ≤ up + 60 → up ≤ down + 60 → w ≡ value_word negative m (up + 64 - down) → Value w ≡ value_as negative m up down
+pub value_stands : (negative : Bool) (m up down w : ℕ) → (m ≡ 0 → ⊥) → m < size_cap → down ≤ up + 60 → up ≤ down + 60 → w ≡ value_word negative m (up + 64 - down) → Ok w ≡ value_as negative m up down
 value_stands negative m up down w n a b c e = rw e (sym (value_inside negative m up down n (stands_range m up down (record { small = a; low = b; high = c }))))
 
 -- two descriptions of a number agree: they are zero together, and if either is within its bounds they are equal
@@ -120,7 +120,7 @@ unfolding lowering
 lowering_cut x q h e = rw e (by_test (λ (n : ℕ). n ≤ exponent_cap) x.negative _ _ (λ t. h) (λ t. omega arith))
 
 -- a number out of its bounds, for whatever reason
-pub value_fails : (negative : Bool) (m up down : ℕ) → (m ≡ 0 → ⊥) → (m < size_cap → down ≤ up + 60 → up ≤ down + 60 → ⊥) → Range ≡ value_as negative m up down
+pub value_fails : (negative : Bool) (m up down : ℕ) → (m ≡ 0 → ⊥) → (m < size_cap → down ≤ up + 60 → up ≤ down + 60 → ⊥) → Err Range ≡ value_as negative m up down
 value_fails negative m up down n f =
     by_cases _ (in_range m up down)
     (λ (e : in_range m up down ≡ true).

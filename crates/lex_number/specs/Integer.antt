@@ -1,10 +1,9 @@
 -- Document 01, "Numbers": "Integers: digits, 1 to 9 of them, else 13."
 -- Assumes nothing.
-use Rattle.std.specs.Prelude.{ℕ, ◌+◌, ◌-◌, ◌*◌, Bool, List, [], ◌∷◌, length}
+use Rattle.std.specs.Prelude.{ℕ, ◌+◌, ◌-◌, ◌*◌, Bool, List, [], ◌∷◌, length, Option, None, Some}
 use Rattle.base.specs.If.{provided◌then◌else◌, both}
 use Rattle.base.specs.Bytes.{within, is_digit}
 use Rattle.base.specs.Runs.{all}
-use Rattle.lex_number.specs.declared.Whole.{Whole}
 
 -- the number that these digits write, when the digits before them write a
 unfoldable pub value_of : ℕ → List ℕ → ℕ
@@ -14,10 +13,11 @@ value_of a (b ∷ s) = value_of (10 * a + (b - 48)) s
 unfoldable pub is_integer : List ℕ → Bool
 is_integer s = both (within 1 9 (length s)) (all is_digit s)
 
--- whether a word is an integer, and its value, 0 if it is none
-unfoldable pub whole_of : List ℕ → Whole
-whole_of s = provided is_integer s then record { formed = Bool.true; value = value_of 0 s } else record { formed = Bool.false; value = 0 }
+-- the value of a word that is an integer
+unfoldable pub whole_of : List ℕ → Option ℕ
+whole_of s = provided is_integer s then Some (value_of 0 s) else None
 
 -- an integer is within its bounds; if not, it breaks 14. A word that is no integer breaks 13, and no bounds
-unfoldable pub is_whole_within : ℕ → ℕ → Whole → Bool
-is_whole_within low high w = provided w.formed then within low high w.value else Bool.true
+abbrev pub is_whole_within : ℕ → ℕ → Option ℕ → Bool
+is_whole_within low high None = Bool.true
+is_whole_within low high (Some value) = within low high value

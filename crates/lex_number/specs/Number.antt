@@ -1,6 +1,7 @@
 -- Document 01, "Numbers": the number that a word writes. Exact for words of any length; nothing here is capped.
 -- Assumes nothing.
-use Rattle.std.specs.Prelude.{ℕ, ◌+◌, ◌-◌, ◌*◌, Bool, true, false, not, List, [], ◌∷◌, ℤ, pos, negsuc, neg_ℤ, take, drop, get_or, leb, ltb, eqb}
+use Rattle.std.specs.Prelude.{ℕ, ◌+◌, ◌-◌, ◌*◌, Bool, true, false, not, List, [], ◌∷◌, ℤ, pos, negsuc, neg_ℤ, take, drop, get_or, leb, ltb, eqb, Result, Ok, Err}
+use Rattle.std.specs.Result.{result_unwrap_or}
 use Prim.Native.Char.{code}
 use Rattle.base.specs.If.{provided◌then◌else◌, both, either}
 use Rattle.base.specs.Bytes.{is_digit, is_letter}
@@ -11,8 +12,12 @@ use Rattle.lex_number.specs.declared.Digits.{Digits}
 use Rattle.lex_number.specs.declared.Exponent.{Exponent}
 use Rattle.lex_number.specs.declared.Scaling.{Scaling}
 use Rattle.lex_number.specs.declared.Scale.{Scale}
-use Rattle.lex_number.specs.declared.Number.{Number}
-use Rattle.lex_number.specs.declared.Number.TheVariants.{Value, Malformed, Range}
+use Rattle.lex_number.specs.declared.NumberError.{NumberError}
+use Rattle.lex_number.specs.declared.NumberError.TheVariants.{Malformed, Range}
+
+-- a word read as a number: its value word, or why it has none
+abbrev pub Number : Type 0
+Number = Result ℕ NumberError
 
 -- "Optional sign": + or -
 unfoldable pub is_sign : ℕ → Bool
@@ -138,8 +143,8 @@ in_range m up down = both (ltb m 1_000_000_000_000_000) (both (leb down (up + 60
 -- "zero is m 0, k 0 and has no sign"
 unfoldable pub value_as : Bool → ℕ → ℕ → ℕ → Number
 value_as negative m up down =
-    provided eqb m 0 then Value zero_word else
-    provided in_range m up down then Value (value_word negative m (up + 64 - down)) else Range
+    provided eqb m 0 then Ok zero_word else
+    provided in_range m up down then Ok (value_word negative m (up + 64 - down)) else Err Range
 
 -- "at least one digit", "then letters only"
 unfoldable pub well_formed : List ℕ → Digits → Exponent → Bool
@@ -147,7 +152,7 @@ well_formed s d x = both d.some (all is_letter (drop x.end s))
 
 unfoldable pub number_from : List ℕ → Digits → Exponent → Scale → Number
 number_from s d x c =
-    provided well_formed s d x then value_as (is_minus (get_or s 0 0)) d.size (raised d x c) (lowered d x c) else Malformed
+    provided well_formed s d x then value_as (is_minus (get_or s 0 0)) d.size (raised d x c) (lowered d x c) else Err Malformed
 
 unfoldable pub digits_of : List ℕ → Digits
 digits_of s = scan (drop (past_sign s 0) s) (no_digits (past_sign s 0))
@@ -162,17 +167,15 @@ number_of s =
 
 -- whether a number is well formed, else 13; and whether a well-formed number is within its bounds, else 14
 abbrev pub is_formed : Number → Bool
-is_formed (Value w) = true
-is_formed Malformed = false
-is_formed Range = true
+is_formed (Ok w) = true
+is_formed (Err Malformed) = false
+is_formed (Err Range) = true
 
 abbrev pub is_bounded : Number → Bool
-is_bounded (Value w) = true
-is_bounded Malformed = true
-is_bounded Range = false
+is_bounded (Ok w) = true
+is_bounded (Err Malformed) = true
+is_bounded (Err Range) = false
 
 -- the value word of a number, 0 if it is malformed or out of range
 abbrev pub word_in : Number → ℕ
-word_in (Value w) = w
-word_in Malformed = 0
-word_in Range = 0
+word_in n = result_unwrap_or n 0

@@ -11,8 +11,8 @@ ghost use Rattle.lex_number.specs.Way.At.{weight, no_reading, RunRead, DigitsRea
 ghost use Rattle.lex_number.specs.Way.Block.{bytes_of, AreDigits, paired_digits};
 ghost use Rattle.lex_number.specs.Way.In.{is_spelling, Knows};
 
-use crate::{Exponent, Number, Scale};
-use base::Class;
+use crate::{Exponent, NumberAt, NumberError, Scale, WordByte};
+use base::class::{ByteClass, Letter};
 
 // The short way reads at most this many bytes of digits, with their point. The number that they write fits a word. A
 // number with more digits is read the long way.
@@ -76,33 +76,22 @@ fn read_run(s: &[u8], from: usize, stop: usize, before: u64) -> Run
     ensures { RunRead s.now from stop before result }
 {
     let mut value = before;
-    let mut i = from;
-    while i < stop {
+    for i in from..stop {
         let next = s[i];
-        let byte = base::wide(next);
-        if byte < 48 {
+        if !base::is_digit(next) {
             return Run {
                 value,
                 end: i,
                 next,
             };
         }
-        let digit = byte - 48;
-        if digit > 9 {
-            return Run {
-                value,
-                end: i,
-                next,
-            };
-        }
-        value = 10 * value + digit;
-        i += 1;
+        value = 10 * value + (base::wide(next) - 48);
     }
-    let next = s[i];
+    let end = from.max(stop);
     Run {
         value,
-        end: i,
-        next,
+        end,
+        next: s[end],
     }
 }
 
@@ -111,10 +100,8 @@ fn read_run(s: &[u8], from: usize, stop: usize, before: u64) -> Run
 fn are_eight(word: u64) -> bool
     ensures { AreDigits 8 word result }
 {
-    if word & 0xf0f0_f0f0_f0f0_f0f0 != 0x3030_3030_3030_3030 {
-        return false;
-    }
-    (word + 0x0606_0606_0606_0606) & 0xf0f0_f0f0_f0f0_f0f0 == 0x3030_3030_3030_3030
+    word & 0xf0f0_f0f0_f0f0_f0f0 == 0x3030_3030_3030_3030
+        && (word + 0x0606_0606_0606_0606) & 0xf0f0_f0f0_f0f0_f0f0 == 0x3030_3030_3030_3030
 }
 
 // The same for four bytes.
@@ -122,10 +109,7 @@ fn are_four(word: u64) -> bool
     requires { word < 4_294_967_296 }
     ensures { AreDigits 4 word result }
 {
-    if word & 0xf0f0_f0f0 != 0x3030_3030 {
-        return false;
-    }
-    (word + 0x0606_0606) & 0xf0f0_f0f0 == 0x3030_3030
+    word & 0xf0f0_f0f0 == 0x3030_3030 && (word + 0x0606_0606) & 0xf0f0_f0f0 == 0x3030_3030
 }
 
 // A word contains numbers side by side, each `width` bits wide. Combines each pair into one number: the first times
@@ -242,10 +226,7 @@ fn past(b: u8, at: usize) -> usize
     ensures fact_1 { result ≡ (provided is_sign b then at + 1 else at) }
     ensures fact_2 { result ≤ at + 1 }
 {
-    if crate::is_sign(b) {
-        return at + 1;
-    }
-    at
+    at + usize::from(crate::is_sign(b))
 }
 
 // No exponent at `from`, where the byte is b.
@@ -316,7 +297,7 @@ fn without_zeros(all: u64) -> Trimmed
 }
 
 // The value of a number whose parts are short, so that no sum has to be capped.
-fn plain_value(parts: Parts, c: Scale) -> Number
+fn plain_value(parts: Parts, c: Scale) -> Result<u64, NumberError>
     requires fact_1 { ShortParts parts }
     requires fact_2 { c.up ≤ 15 }
     requires fact_3 { c.down ≤ 15 }
@@ -325,31 +306,12 @@ fn plain_value(parts: Parts, c: Scale) -> Number
     let d = parts.digits;
     let x = parts.exponent;
     if d.all == 0 {
-        return Number::Value(128);
+        return Ok(128);
     }
     let m = without_zeros(d.all);
     let up = m.zeros + crate::raising(x) + c.up;
     let down = d.fraction + crate::lowering(x) + c.down;
     crate::judged(parts.negative, m.size, up, down)
-}
-
-// The result of the short way: a number and where its word ends, or, if not `known`, nothing.
-#[derive(Clone, Copy)]
-pub struct ShortNumber {
-    pub known: bool,
-    pub number: Number,
-    pub end: usize,
-}
-
-// The short way does not know the number; the long way has to read it.
-fn not_short(from: usize) -> ShortNumber
-    ensures { result.known ≡ false }
-{
-    ShortNumber {
-        known: false,
-        number: Number::Malformed,
-        end: from,
-    }
 }
 
 // The position after the byte at `at` if it is a letter, else `at`: skips a unit of two letters without a branch.
@@ -358,15 +320,12 @@ fn past_letter(s: &[u8], at: usize) -> usize
     ensures fact_1 { result ≡ (provided is_letter (get_or s.now at 0) then at + 1 else at) }
     ensures fact_2 { result ≤ at + 1 }
 {
-    if base::is_letter(s[at]) {
-        return at + 1;
-    }
-    at
+    at + usize::from(base::is_letter(s[at]))
 }
 
 // The short way for a number at `from` whose parts have been read and whose word goes on after them. The number is
-// known if the rest of the word is letters only.
-fn scaled_in(s: &[u8], from: usize, comment: u8, parts: Parts) -> ShortNumber
+// known if the rest of the word is letters only; else the long way has to read it.
+fn scaled_in(s: &[u8], from: usize, comment: u8, parts: Parts) -> Option<NumberAt>
     requires fact_1 { is_spelling comment ≡ false }
     requires fact_2 { from < length s.now }
     requires fact_3 { 40 ≤ length s.now - from }
@@ -374,57 +333,48 @@ fn scaled_in(s: &[u8], from: usize, comment: u8, parts: Parts) -> ShortNumber
     ensures { Knows comment s.now from result }
 {
     let digits = parts.digits;
-    if !digits.some {
-        return not_short(from);
-    }
-    if !base::is_letter(parts.next) {
-        return not_short(from);
+    if !digits.some || !base::is_letter(parts.next) {
+        return None;
     }
     let exponent = parts.exponent;
     let scale = crate::scale_of(parts.next);
     let near = past_letter(s, from + exponent.end + 1);
-    if !crate::is_word(comment, s[near]) {
-        return ShortNumber {
-            known: true,
+    if !WordByte(comment).contains(s[near]) {
+        return Some(NumberAt {
             number: plain_value(parts, scale),
             end: near,
-        };
+        });
     }
-    let end = base::skip(Class::Letter, s, near);
+    let end = base::skip(Letter, s, near);
     if crate::is_word_at(s, end, comment) {
-        return not_short(from);
+        return None;
     }
-    ShortNumber {
-        known: true,
+    Some(NumberAt {
         number: plain_value(parts, scale),
         end,
-    }
+    })
 }
 
-// The short way: reads the number at `from` in one pass. The number is known if it is short.
-pub fn short_number(s: &[u8], from: usize, comment: u8) -> ShortNumber
+// The short way: reads the number at `from` in one pass, and where its word ends, if the number is short.
+pub fn short_number(s: &[u8], from: usize, comment: u8) -> Option<NumberAt>
     requires { is_spelling comment ≡ false }
     ensures { Knows comment s.now from result }
 {
-    if s.len() <= from {
-        return not_short(from);
-    }
-    if s.len() - from < ROOM {
-        return not_short(from);
+    if s.len().saturating_sub(from) < ROOM {
+        return None;
     }
     let parts = parts_of(&s[from..]);
-    if crate::is_word(comment, parts.next) {
+    if WordByte(comment).contains(parts.next) {
         return scaled_in(s, from, comment, parts);
     }
     let digits = parts.digits;
     if !digits.some {
-        return not_short(from);
+        return None;
     }
     let exponent = parts.exponent;
     let scale = Scale { up: 0, down: 0 };
-    ShortNumber {
-        known: true,
+    Some(NumberAt {
         number: plain_value(parts, scale),
         end: from + exponent.end,
-    }
+    })
 }

@@ -1,8 +1,9 @@
 -- Laws of arguments, as code uses them at its returns: the end of a run of bytes decides whether the argument is one
 -- word, an extension or a file name, and the integer that is read is that of the argument.
 -- Assumes nothing.
+use Rattle.std.proofs.Common.{unwrap_or, Option, is_some}
 use mathlib.Core.Path.{◌≡◌, sym, ◌∙◌, ap, refl}
-use mathlib.Core.Bool.{Bool, true, false, not}
+use mathlib.Core.Bool.{Bool, true, false, not, not-not}
 use mathlib.Core.List.{List, [], ◌∷◌}
 use Prim.Native.Nat.{ℕ, ◌+◌, ◌-◌, ◌≤◌, ◌<◌}
 use native.Mathlib.Nat.{zero-add}
@@ -10,54 +11,27 @@ use native.Mathlib.Omega.{arith}
 use lib.ListN.{length, take, drop, get_or, length-drop, get_or-eq_default}
 use lib.Seq.{take_all}
 use lib.Dec.{eqb, ltb}
-use borrow.Author.Tests.{eq-eqb, ne_eqb, le-leb, lt-leb, lt-ltb, le-ltb, ltb-true, ltb-false, not-true, not-false, eqb-false}
-use Rattle.base.specs.Bytes.{within, is_filled}
+use borrow.Author.Tests.{eq-eqb, ne_eqb, lt-ltb, le-ltb, ltb-true, ltb-false, not-true, not-false, eqb-false}
+use Rattle.base.specs.Bytes.{is_filled}
 use Rattle.base.specs.Way.Class.{run_end}
 use Rattle.base.specs.Runs.{run, all, same}
-use Rattle.base.proofs.IfLaws.{by_cases, both_true, both_rest, both_not_left, both_not_right, either_false, either_none_first, either_none_second}
+use Rattle.base.proofs.IfLaws.{by_cases, both_rest, both_not_left, either_false, either_none_first, either_none_second}
 use Rattle.base.specs.If.{either}
-use Rattle.lex_number.specs.declared.Whole.{Whole}
 use Rattle.lex_number.specs.Integer.{whole_of, is_whole_within}
 use Rattle.lex_number.proofs.AllLaws.{all_run}
 use Rattle.line_place.specs.Place.{is_row_or_bandwidth}
-use Rattle.line_argument.specs.Argument.{is_one_word, is_name, is_reserved, is_file_byte, is_extension, is_file_name, is_bad_integer}
+use Rattle.line_argument.specs.Argument.{is_one_word, is_reserved, is_file_byte, is_extension, is_file_name, is_bad_integer}
 use Rattle.line_argument.specs.Way.Reserved.{starts_reserved}
 use Rattle.table_layout.specs.Bounds.{most_conductors, most_bandwidth}
 
 -- every byte passes exactly when the run from the front goes to the end
-all_told : (p : ℕ → Bool) (s : List ℕ) (end : ℕ) → end ≡ run_end p s 0 → eqb end (length s) ≡ all p s
+pub all_told : (p : ℕ → Bool) (s : List ℕ) (end : ℕ) → end ≡ run_end p s 0 → eqb end (length s) ≡ all p s
 all_told p s end told = ap (λ (n : ℕ). eqb n (length s)) (told ∙ zero-add (run p s)) ∙ sym (all_run p s)
 
 module _ (s : List ℕ) where
-  pub empty_no_word : length s < 1 → false ≡ is_one_word s
-  unfolding is_one_word
-  empty_no_word h = sym (both_not_left _ _ (le-ltb 0 (length s) (omega arith)))
-
   pub one_word : (end : ℕ) → 1 ≤ length s → end ≡ run_end is_filled s 0 → eqb end (length s) ≡ is_one_word s
   unfolding is_one_word
   one_word end h told = all_told is_filled s end told ∙ sym (both_rest _ _ (lt-ltb 0 (length s) (omega arith)))
-
-  pub empty_no_extension : length s < 1 → false ≡ is_extension s
-  unfolding is_extension within
-  empty_no_extension h = sym (both_not_left _ _ (both_not_left _ _ (lt-leb 1 (length s) h)))
-
-  pub long_no_extension : 3 < length s → false ≡ is_extension s
-  unfolding is_extension within
-  long_no_extension h = sym (both_not_left _ _ (both_not_right _ _ (lt-leb (length s) 3 h)))
-
-  pub extension : (end : ℕ) → 1 ≤ length s → length s ≤ 3 → end ≡ run_end is_file_byte s 0 → eqb end (length s) ≡ is_extension s
-  unfolding is_extension within
-  extension end h k told = all_told is_file_byte s end told ∙ sym (both_rest _ _ (both_true _ _ (le-leb 1 (length s) h) (le-leb (length s) 3 k)))
-
--- t says whether the argument is one word, u whether it is reserved
-module _ (s : List ℕ) (t : Bool) (told : t ≡ is_one_word s) where
-  pub no_word_no_name : not t ≡ true → false ≡ is_name s
-  unfolding is_name
-  no_word_no_name e = sym (both_not_left _ _ (sym told ∙ not-true t e))
-
-  pub word_name : (u : Bool) → not t ≡ false → u ≡ is_reserved s → not u ≡ is_name s
-  unfolding is_name
-  word_name u e k = ap not k ∙ sym (both_rest _ _ (sym told ∙ not-false t e))
 
 -- where the base of a file name ends, and the byte there
 module _ (s : List ℕ) (period there : ℕ) (told : period ≡ run_end is_file_byte s 0) where
@@ -98,22 +72,23 @@ module _ (s : List ℕ) (period there : ℕ) (told : period ≡ run_end is_file_
           e ∙ ap is_extension (w ∙ ap (λ (n : ℕ). drop n s) n) ∙ sym (both_rest _ _ base_told ∙ both_rest _ _ (ap (λ (b : ℕ). eqb b 46) byte_is ∙ eq-eqb there 46 is_period))
 
 -- the integer that is read is that of the argument
-module _ (s : List ℕ) (whole : Whole) (told : whole ≡ whole_of s) where
+module _ (s : List ℕ) (whole : Option ℕ) (told : whole ≡ whole_of s) where
   pub off_rows : (t : Bool) → t ≡ is_whole_within 1 most_conductors whole → not t ≡ not (is_whole_within 1 most_conductors (whole_of s))
   off_rows t e = rw (e, told)
 
-  pub wide_band : ltb most_bandwidth whole.value ≡ ltb most_bandwidth (whole_of s).value
-  wide_band = rw told
+  pub wide_band : (v : ℕ) → v ≡ unwrap_or whole 0 → ltb most_bandwidth v ≡ ltb most_bandwidth (unwrap_or (whole_of s) 0)
+  wide_band v e = rw (e, told)
 
 -- 13 for a keyword line; t says whether the keyword takes an integer
 module _ (key : ℕ) (s : List ℕ) (t : Bool) (told : t ≡ is_row_or_bandwidth key) where
-  pub no_integer : not t ≡ true → false ≡ is_bad_integer key s
+  pub no_integer : t ≡ false → t ≡ is_bad_integer key s
   unfolding is_bad_integer
-  no_integer e = sym (both_not_left _ _ (sym told ∙ not-true t e))
+  no_integer e = e ∙ sym (both_not_left _ _ (sym told ∙ e))
 
-  pub integer_told : (whole : Whole) → not t ≡ false → whole ≡ whole_of s → not whole.formed ≡ is_bad_integer key s
+  pub integer_told : (whole : Option ℕ) (none : Bool) → t ≡ true → whole ≡ whole_of s → is_some whole ≡ not none → none ≡ is_bad_integer key s
   unfolding is_bad_integer
-  integer_told whole e read = ap (λ (w : Whole). not w.formed) read ∙ sym (both_rest _ _ (sym told ∙ not-false t e))
+  integer_told whole none e read absent =
+      sym (not-not none) ∙ ap not (sym absent) ∙ ap (λ (w : Option ℕ). not (is_some w)) read ∙ sym (both_rest _ _ (sym told ∙ e))
 
 -- ---- reserved words by their first byte
 
@@ -131,7 +106,7 @@ not_reserved b x e =
     either_false _ _ (other_start b 80 x _ power)
     (either_false _ _ (other_start b 71 x _ ground) (either_false _ _ (other_start b 78 x _ none) (other_start b 78 x _ none)))
 
-pub reserved_starts : (w : List ℕ) (b : ℕ) (is : Bool) → b ≡ get_or w 0 0 → is ≡ starts_reserved b → not is ≡ true → false ≡ is_reserved w
+pub reserved_starts : (w : List ℕ) (b : ℕ) (is : Bool) → b ≡ get_or w 0 0 → is ≡ starts_reserved b → is ≡ false → is ≡ is_reserved w
 unfolding is_reserved same either
-reserved_starts [] b is told starts e = refl
-reserved_starts (c ∷ x) b is told starts e = sym (not_reserved c x (ap starts_reserved (sym told) ∙ sym starts ∙ not-true is e))
+reserved_starts [] b is told starts e = e
+reserved_starts (c ∷ x) b is told starts e = e ∙ sym (not_reserved c x (ap starts_reserved (sym told) ∙ sym starts ∙ e))

@@ -1,7 +1,7 @@
 -- Document 01, "Lines and keywords" and the sections after it: which argument each keyword takes. An argument is given
 -- without the blanks at its ends and without the comment.
 -- Assumes nothing.
-use Rattle.std.specs.Prelude.{ℕ, ◌+◌, Bool, false, not, List, length, drop, get_or, ltb, eqb}
+use Rattle.std.specs.Prelude.{ℕ, ◌+◌, Bool, false, not, List, length, drop, get_or, ltb, eqb, is_some, unwrap_or}
 use Prim.Native.Char.{code}
 use Rattle.base.specs.If.{provided◌then◌else◌, both, either}
 use Rattle.base.specs.Bytes.{bytes, within, is_digit, is_small, is_filled}
@@ -109,10 +109,10 @@ is_bad_argument k s =
 
 -- 13 for a keyword line: [Row] and [Bandwidth] take an integer
 unfoldable pub is_bad_integer : ℕ → List ℕ → Bool
-is_bad_integer k s = both (is_row_or_bandwidth k) (not (whole_of s).formed)
+is_bad_integer k s = both (is_row_or_bandwidth k) (not (is_some (whole_of s)))
 
 -- 14 for a keyword line: "[Row] .. 1 to 256; B 0 to 255"
 unfoldable pub is_out_of_bounds : ℕ → List ℕ → Bool
 is_out_of_bounds k s =
     provided eqb k row then not (is_whole_within 1 most_conductors (whole_of s)) else
-    provided eqb k bandwidth then ltb most_bandwidth (whole_of s).value else false
+    provided eqb k bandwidth then ltb most_bandwidth (unwrap_or (whole_of s) 0) else false

@@ -4,7 +4,6 @@
 
 ghost use Rattle.std.specs.Prelude.{◌≡◌, length};
 ghost use Rattle.base.specs.Bytes.{within};
-ghost use Rattle.base.specs.Way.Class.{run_end};
 ghost use Rattle.line_argument.specs.Argument.{
   is_reserved,
   is_one_word,
@@ -24,108 +23,72 @@ ghost use Rattle.line_argument.specs.Argument.{
 };
 ghost use Rattle.line_argument.specs.Way.Reserved.{starts_reserved};
 
-use base::Class;
+use base::class::{ByteClass, Filled};
 
 // Whether a reserved word starts with this byte.
 pub fn starts_reserved(b: u8) -> bool
     ensures { result ≡ starts_reserved b }
 {
-    if b == b'P' {
-        return true;
-    }
-    if b == b'G' {
-        return true;
-    }
-    b == b'N'
+    matches!(b, b'P' | b'G' | b'N')
 }
 
 // "names .. never POWER, GND, NC or NA". For most words the first byte decides it.
 pub fn is_reserved(word: &[u8]) -> bool
     ensures { result ≡ is_reserved word.now }
 {
-    if !starts_reserved(base::byte_at(word, 0)) {
-        return false;
-    }
-    if lex_line::same_bytes(word, b"POWER") {
-        return true;
-    }
-    if lex_line::same_bytes(word, b"GND") {
-        return true;
-    }
-    if lex_line::same_bytes(word, b"NC") {
-        return true;
-    }
-    lex_line::same_bytes(word, b"NA")
+    starts_reserved(base::byte_at(word, 0))
+        && (lex_line::same_bytes(word, b"POWER")
+            || lex_line::same_bytes(word, b"GND")
+            || lex_line::same_bytes(word, b"NC")
+            || lex_line::same_bytes(word, b"NA"))
 }
 
 // One word: not empty, and without a blank.
 fn is_one_word(s: &[u8]) -> bool
     ensures { result ≡ is_one_word s.now }
 {
-    if s.len() < 1 {
-        return false;
-    }
-    base::skip(Class::Filled, s, 0) == s.len()
+    0 < s.len() && base::skip(Filled, s, 0) == s.len()
 }
 
 // "names of models, maps, sections .. are one word".
 fn is_name(s: &[u8]) -> bool
     ensures { result ≡ is_name s.now }
 {
-    if !is_one_word(s) {
-        return false;
-    }
-    !is_reserved(s)
+    is_one_word(s) && !is_reserved(s)
 }
 
 // "from a-z 0-9 _ -".
 fn is_file_byte(b: u8) -> bool
     ensures { result ≡ is_file_byte b }
 {
-    if base::is_small(b) {
-        return true;
-    }
-    if base::is_digit(b) {
-        return true;
-    }
-    if b == b'_' {
-        return true;
-    }
-    b == b'-'
+    base::is_small(b) || base::is_digit(b) || b == b'_' || b == b'-'
 }
 
-// Where the run of file name bytes that starts at `from` ends.
-fn skip_file_bytes(s: &[u8], from: usize) -> usize
-    ensures { result ≡ run_end is_file_byte s.now from }
-{
-    let mut i = from;
-    while i < s.len() {
-        if !is_file_byte(s[i]) {
-            return i;
-        }
-        i += 1;
+// The bytes of a file's name before its period, and behind it.
+#[derive(Clone, Copy)]
+struct FileByte;
+
+impl ByteClass for FileByte {
+    ghost holds = { λ _ b. is_file_byte b };
+
+    fn contains(self, b: u8) -> bool {
+        is_file_byte(b)
     }
-    i
 }
 
 // "1 to 3 more".
 fn is_extension(s: &[u8]) -> bool
     ensures { result ≡ is_extension s.now }
 {
-    if s.len() < 1 {
-        return false;
-    }
-    if 3 < s.len() {
-        return false;
-    }
-    skip_file_bytes(s, 0) == s.len()
+    1 <= s.len() && s.len() <= 3 && base::skip(FileByte, s, 0) == s.len()
 }
 
 // "A file name is a base, one period, 1 to 3 more".
 fn is_file_name(s: &[u8]) -> bool
     ensures { result ≡ is_file_name s.now }
 {
-    let period = skip_file_bytes(s, 0);
+    let period = base::skip(FileByte, s, 0);
+    // Not joined by &&: the part behind the period is taken on what both tests say.
     if period < 1 {
         return false;
     }
@@ -140,10 +103,7 @@ fn is_file_name(s: &[u8]) -> bool
 fn is_date(s: &[u8]) -> bool
     ensures { result ≡ within 1 40 (length s.now) }
 {
-    if s.len() < 1 {
-        return false;
-    }
-    s.len() <= 40
+    1 <= s.len() && s.len() <= 40
 }
 
 // The form of a matrix by its number in the table; FORMS for any other word.
@@ -182,76 +142,53 @@ pub fn method_of(s: &[u8]) -> u64
 fn takes_nothing(key: u64) -> bool
     ensures { result ≡ takes_nothing key }
 {
-    if key == lex_keyword::BEGIN_HEADER {
-        return true;
-    }
-    if key == lex_keyword::END_HEADER {
-        return true;
-    }
-    if key == lex_keyword::ICM_MODEL_LIST {
-        return true;
-    }
-    if key == lex_keyword::TREE_PATH_DESCRIPTION {
-        return true;
-    }
-    if key == lex_keyword::END_ICM_MODEL {
-        return true;
-    }
-    if key == lex_keyword::END_ICM_FAMILY {
-        return true;
-    }
-    if key == lex_keyword::END_ICM_SECTION {
-        return true;
-    }
-    key == lex_keyword::THE_END
+    matches!(
+        key,
+        lex_keyword::BEGIN_HEADER
+            | lex_keyword::END_HEADER
+            | lex_keyword::ICM_MODEL_LIST
+            | lex_keyword::TREE_PATH_DESCRIPTION
+            | lex_keyword::END_ICM_MODEL
+            | lex_keyword::END_ICM_FAMILY
+            | lex_keyword::END_ICM_SECTION
+            | lex_keyword::THE_END
+    )
 }
 
 // "Other arguments are non-empty text".
 fn takes_text(key: u64) -> bool
     ensures { result ≡ takes_free_text key }
 {
-    if key == lex_keyword::FILE_REV {
-        return true;
-    }
-    if key == lex_keyword::REDISTRIBUTION {
-        return true;
-    }
-    if key == lex_keyword::BEGIN_ICM_FAMILY {
-        return true;
-    }
-    key == lex_keyword::MANUFACTURER
+    matches!(
+        key,
+        lex_keyword::FILE_REV
+            | lex_keyword::REDISTRIBUTION
+            | lex_keyword::BEGIN_ICM_FAMILY
+            | lex_keyword::MANUFACTURER
+    )
 }
 
 // "names of models, maps, sections".
 fn takes_name(key: u64) -> bool
     ensures { result ≡ takes_name key }
 {
-    if key == lex_keyword::BEGIN_ICM_MODEL {
-        return true;
-    }
-    if key == lex_keyword::ICM_PIN_MAP {
-        return true;
-    }
-    key == lex_keyword::BEGIN_ICM_SECTION
+    matches!(
+        key,
+        lex_keyword::BEGIN_ICM_MODEL | lex_keyword::ICM_PIN_MAP | lex_keyword::BEGIN_ICM_SECTION
+    )
 }
 
 // Rule 11 for the keywords that take a text of a form of their own.
 fn is_bad_form(key: u64, argument: &[u8]) -> bool
     ensures { result ≡ is_bad_form key argument.now }
 {
-    if key == lex_keyword::ICM_VER {
-        return !lex_line::same_bytes(argument, b"1.1");
+    match key {
+        lex_keyword::ICM_VER => !lex_line::same_bytes(argument, b"1.1"),
+        lex_keyword::FILE_NAME => !is_file_name(argument),
+        lex_keyword::DATE => !is_date(argument),
+        lex_keyword::DERIVATION_METHOD => method_of(argument) == table_layout::code::METHODS,
+        _ => false,
     }
-    if key == lex_keyword::FILE_NAME {
-        return !is_file_name(argument);
-    }
-    if key == lex_keyword::DATE {
-        return !is_date(argument);
-    }
-    if key == lex_keyword::DERIVATION_METHOD {
-        return method_of(argument) == table_layout::code::METHODS;
-    }
-    false
 }
 
 // "11 ARGUMENT: argument missing, surplus or not allowed". A keyword that opens a text block takes any text, even none.
@@ -271,7 +208,7 @@ pub fn is_bad_argument(key: u64, argument: &[u8]) -> bool
         return !is_name(argument);
     }
     if takes_text(key) {
-        return argument.len() == 0;
+        return argument.is_empty();
     }
     is_bad_form(key, argument)
 }
@@ -280,11 +217,7 @@ pub fn is_bad_argument(key: u64, argument: &[u8]) -> bool
 pub fn is_bad_integer(key: u64, argument: &[u8]) -> bool
     ensures { result ≡ is_bad_integer key argument.now }
 {
-    if !line_place::is_row_or_bandwidth(key) {
-        return false;
-    }
-    let whole = lex_number::read_integer(argument);
-    !whole.formed
+    line_place::is_row_or_bandwidth(key) && lex_number::read_integer(argument).is_none()
 }
 
 // Rule 14 for a keyword line: "[Row] .. 1 to 256; B 0 to 255".
@@ -292,12 +225,12 @@ pub fn is_out_of_bounds(key: u64, argument: &[u8]) -> bool
     ensures { result ≡ is_out_of_bounds key argument.now }
 {
     if key == lex_keyword::ROW {
-        let whole = lex_number::read_integer(argument);
-        return !lex_number::is_whole_within(1, table_layout::bound::CONDUCTORS, whole);
+        let row = lex_number::read_integer(argument);
+        return !lex_number::is_whole_within(1, table_layout::bound::CONDUCTORS, row);
     }
     if key == lex_keyword::BANDWIDTH {
-        let whole = lex_number::read_integer(argument);
-        return table_layout::bound::BANDWIDTH < whole.value;
+        let bandwidth = lex_number::read_integer(argument);
+        return table_layout::bound::BANDWIDTH < bandwidth.unwrap_or(0);
     }
     false
 }

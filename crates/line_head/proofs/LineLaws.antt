@@ -1,5 +1,6 @@
 -- Laws of the lines of the head: each reader, making one test after another, returns what its definition gives.
 -- Assumes nothing.
+use Rattle.std.proofs.Common.{Option, is_some}
 use mathlib.Core.Path.{◌≡◌, sym, ◌∙◌, ap}
 use mathlib.Core.Bool.{Bool, true, false, not}
 use mathlib.Core.List.{List}
@@ -21,10 +22,8 @@ use Rattle.lex_line.specs.Way.Spans.{first_two_of, marked_by}
 use Rattle.lex_line.specs.declared.FirstTwo.{FirstTwo}
 use Rattle.lex_line.proofs.WordLaws.{first_marked, second_marked}
 use Rattle.lex_line.proofs.FormLaws.{counted, counted_not, part_from, sign_none, sign_there, left_words, right_words}
-use Rattle.lex_number.specs.Number.{number_of, is_formed, is_bounded}
+use Rattle.lex_number.specs.Number.{number_of, is_formed, is_bounded, Number}
 use Rattle.lex_number.specs.Integer.{whole_of, is_whole_within}
-use Rattle.lex_number.specs.declared.Number.{Number}
-use Rattle.lex_number.specs.declared.Whole.{Whole}
 use Rattle.line_head.specs.Head.{says_nothing, says_model_type, says_ratio, says_impedance, model_type_of, wrong_head_line, type_line, to_colon, ratio_of, sgr_line, impedance_line, head_line_of}
 use Rattle.line_head.specs.declared.HeadLine.{HeadLine}
 use Rattle.table_layout.specs.Bounds.{most_ratio}
@@ -63,7 +62,7 @@ module _ (w : List ℕ) (colon : ℕ) (at : colon ≡ run_end (is_before (code "
   colon_rest : take (length w - colon) (drop colon w) ≡ drop (to_colon w) w
   colon_rest = part_from w colon ∙ ap (λ (n : ℕ). drop n w) colon_is
 
-  colon_ratio : (ratio : Whole) → ratio ≡ whole_of (take colon w) → ratio ≡ ratio_of w
+  colon_ratio : (ratio : Option ℕ) → ratio ≡ whole_of (take colon w) → ratio ≡ ratio_of w
   unfolding ratio_of
   colon_ratio ratio e = e ∙ ap (λ (n : ℕ). whole_of (take n w)) colon_is
 
@@ -96,11 +95,11 @@ module _ (content : List ℕ) (few : FirstTwo) (told : few ≡ first_two_of cont
       unfolding sgr_line
       sgr_wrong r e h = h ∙ sym (if_false _ _ (both_not_right _ _ (sym rest_is ∙ not-true t e)))
 
-      pub sgr_right : (ratio : Whole) (inside : Bool) → not t ≡ false → ratio ≡ whole_of (take colon w) → inside ≡ is_whole_within 1 most_ratio ratio → record { says = says_ratio; right = true; formed = ratio.formed; bounded = inside; kind = 0 } ≡ sgr_line (words content)
+      pub sgr_right : (ratio : Option ℕ) (formed inside : Bool) → not t ≡ false → ratio ≡ whole_of (take colon w) → formed ≡ is_some ratio → inside ≡ is_whole_within 1 most_ratio ratio → record { says = says_ratio; right = true; formed = formed; bounded = inside; kind = 0 } ≡ sgr_line (words content)
       unfolding sgr_line
-      sgr_right ratio inside e k h =
+      sgr_right ratio formed inside e k g h =
           let f : ratio ≡ ratio_of (second_of (words content)) = colon_ratio w colon at ratio k ∙ ap ratio_of word_is in
-          rw (h, f) (sym (if_true _ _ (both_true _ _ two_words (sym rest_is ∙ not-false t e))))
+          rw (h, g, f) (sym (if_true _ _ (both_true _ _ two_words (sym rest_is ∙ not-false t e))))
 
 -- ---- Ref_impedance
 

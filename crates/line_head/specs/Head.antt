@@ -5,7 +5,7 @@
 -- `HeadLine`: `says`, which of the three it is; whether its rest is `right`; whether its number is `formed` and `bounded`,
 -- true of a line without one; and the `kind` that it names.
 -- Assumes nothing.
-use Rattle.std.specs.Prelude.{ℕ, ◌+◌, Bool, true, false, not, List, [], ◌∷◌, length, take, drop, eqb}
+use Rattle.std.specs.Prelude.{ℕ, ◌+◌, Bool, true, false, not, List, [], ◌∷◌, length, take, drop, eqb, is_some, Option}
 use Prim.Native.Char.{code}
 use Rattle.base.specs.If.{provided◌then◌else◌, both, either}
 use Rattle.base.specs.Bytes.{bytes, is_before}
@@ -15,7 +15,6 @@ use Rattle.base.specs.Refusal as refusal
 use Rattle.lex_line.specs.Words.{words, first_of, second_of, has_equals, left_of, right_of}
 use Rattle.lex_number.specs.Number.{number_of, is_formed, is_bounded}
 use Rattle.lex_number.specs.Integer.{whole_of, is_whole_within}
-use Rattle.lex_number.specs.declared.Whole.{Whole}
 use Rattle.line_head.specs.declared.Head.{Head}
 use Rattle.line_head.specs.declared.HeadLine.{HeadLine}
 use Rattle.table_layout.specs.Bounds.{most_ratio}
@@ -56,14 +55,14 @@ type_line ws =
 abbrev pub to_colon : List ℕ → ℕ
 to_colon w = run (is_before (code ":")) w
 
-unfoldable pub ratio_of : List ℕ → Whole
+unfoldable pub ratio_of : List ℕ → Option ℕ
 ratio_of w = whole_of (take (to_colon w) w)
 
 -- "`SGR n:1`, n 1 to 65,535"
 unfoldable pub sgr_line : List (List ℕ) → HeadLine
 sgr_line ws =
     provided both (eqb (length ws) 2) (same (drop (to_colon (second_of ws)) (second_of ws)) (bytes ":1"))
-    then record { says = says_ratio; right = true; formed = (ratio_of (second_of ws)).formed; bounded = is_whole_within 1 most_ratio (ratio_of (second_of ws)); kind = 0 }
+    then record { says = says_ratio; right = true; formed = is_some (ratio_of (second_of ws)); bounded = is_whole_within 1 most_ratio (ratio_of (second_of ws)); kind = 0 }
     else wrong_head_line says_ratio
 
 -- "`Ref_impedance=` a number"

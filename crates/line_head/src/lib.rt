@@ -9,7 +9,7 @@ ghost use Rattle.lex_line.specs.Way.Spans.{first_two_of};
 ghost use Rattle.line_head.specs.Head.{model_type_of, wrong_head_line, type_line, sgr_line, impedance_line, head_line_of, is_head_out_of_order, head_next, new_head, head_lacks};
 ghost use Rattle.line_head.specs.Way.Rule.{head_rule};
 
-use base::Class;
+use base::class::Before;
 use lex_line::FirstTwo;
 
 // What a line of the head says: which of the three it is, or none.
@@ -68,7 +68,7 @@ fn wrong_line(says: u64) -> HeadLine
     ensures { result ≡ wrong_head_line says }
 {
     HeadLine {
-        says: says,
+        says,
         right: false,
         formed: true,
         bounded: true,
@@ -94,7 +94,7 @@ fn type_line(content: &[u8], few: FirstTwo) -> HeadLine
         right: true,
         formed: true,
         bounded: true,
-        kind: kind,
+        kind,
     }
 }
 
@@ -108,7 +108,7 @@ fn sgr_line(content: &[u8], few: FirstTwo) -> HeadLine
     }
     let second = few.second;
     let word = lex_line::marked(content, second);
-    let colon = base::skip(Class::Before(b':'), word, 0);
+    let colon = base::skip(Before(b':'), word, 0);
     if !lex_line::same_bytes(&word[colon..], b":1") {
         return wrong_line(RATIO);
     }
@@ -116,7 +116,7 @@ fn sgr_line(content: &[u8], few: FirstTwo) -> HeadLine
     HeadLine {
         says: RATIO,
         right: true,
-        formed: ratio.formed,
+        formed: ratio.is_some(),
         bounded: lex_number::is_whole_within(1, table_layout::bound::RATIO, ratio),
         kind: 0,
     }
@@ -190,16 +190,12 @@ pub fn head_line(content: &[u8]) -> HeadLine
 fn is_out_of_order(l: HeadLine, h: Head) -> bool
     ensures { result ≡ is_head_out_of_order l h }
 {
-    if l.says == MODEL_TYPE {
-        return h.kind != 0;
+    match l.says {
+        MODEL_TYPE => h.kind != 0,
+        RATIO => h.sgr,
+        IMPEDANCE => h.impedance,
+        _ => true,
     }
-    if l.says == RATIO {
-        return h.sgr;
-    }
-    if l.says == IMPEDANCE {
-        return h.impedance;
-    }
-    true
 }
 
 // The rule that a line of the head breaks, 0 for none: "A line its place takes with a wrong rest is 11, repeated or out
@@ -226,28 +222,15 @@ pub fn head_rule(l: HeadLine, h: Head) -> u64
 pub fn head_next(l: HeadLine, h: Head) -> Head
     ensures { result ≡ head_next l h }
 {
-    if l.says == MODEL_TYPE {
-        return Head {
-            kind: l.kind,
-            sgr: h.sgr,
-            impedance: h.impedance,
-        };
-    }
-    if l.says == RATIO {
-        return Head {
-            kind: h.kind,
-            sgr: true,
-            impedance: h.impedance,
-        };
-    }
-    if l.says == IMPEDANCE {
-        return Head {
-            kind: h.kind,
-            sgr: h.sgr,
+    match l.says {
+        MODEL_TYPE => Head { kind: l.kind, ..h },
+        RATIO => Head { sgr: true, ..h },
+        IMPEDANCE => Head {
             impedance: true,
-        };
+            ..h
+        },
+        _ => h,
     }
-    h
 }
 
 // A head of which no line has been read.
@@ -266,11 +249,5 @@ pub fn new_head() -> Head
 pub fn head_lacks(h: Head) -> bool
     ensures { result ≡ head_lacks h }
 {
-    if h.kind == 0 {
-        return true;
-    }
-    if h.kind != SLM_GENERAL {
-        return false;
-    }
-    !h.sgr
+    h.kind == 0 || h.kind == SLM_GENERAL && !h.sgr
 }

@@ -1,5 +1,6 @@
 -- Laws of keyword lines by which the code of this crate is proved.
 -- Assumes nothing.
+use Rattle.std.proofs.Common.{unwrap_or, Option, None, Some}
 use mathlib.Core.Path.{◌≡◌, sym, ◌∙◌, ap}
 use mathlib.Core.Bool.{Bool, true, false}
 use mathlib.Core.List.{List}
@@ -10,6 +11,7 @@ use lib.Seq.{set_out}
 use lib.Dec.{ltb, eqb}
 use borrow.Author.Tests.{eq-eqb, ne_eqb, eqb-true, ltb-false}
 use lib.ListN.{length, get_or-eq_default}
+use Rattle.base.specs.If.{both}
 use Rattle.line_keyword.specs.declared.State.{State}
 use Rattle.line_keyword.specs.declared.Counts.{Counts}
 use Rattle.line_keyword.specs.declared.Section.{Section}
@@ -40,10 +42,9 @@ use Rattle.base.proofs.BrokenLaws.{Numbered, all_kept}
 use Rattle.lex_keyword.specs.Names.{row, bandwidth, begin_icm_model, begin_icm_section, derivation_method, icm_pin_map}
 use Rattle.line_place.specs.Place.{moved, is_row_or_bandwidth, opens_matrix}
 use Rattle.line_argument.specs.Argument.{is_out_of_bounds, form_of, method_of}
-use Rattle.line_matrix.specs.Matrix.{new_matrix, with_row, with_bandwidth}
+use Rattle.line_matrix.specs.Matrix.{is_wrong_row, new_matrix, with_row, with_bandwidth}
 use Rattle.line_matrix.specs.declared.Matrix.{Matrix}
 use Rattle.lex_number.specs.Integer.{whole_of}
-use Rattle.lex_number.specs.declared.Whole.{Whole}
 use Rattle.table_layout.specs.Bounds.{most_bandwidth}
 
 -- a number that belongs to no keyword has not been read
@@ -51,9 +52,19 @@ pub unseen : (k : ℕ) (s : State) → length s.seen ≡ 40 → 40 ≤ k → fal
 unfolding is_seen
 unseen k s l h = sym (get_or-eq_default s.seen false (le_trans (le_of_eq l) h))
 
+-- a [Row] of this value is out of order; one that is no integer is not
+abbrev pub wrong_given : Option ℕ → Matrix → Bool
+wrong_given None m = false
+wrong_given (Some value) m = is_wrong_row value m
+
+pub row_judged : (k : ℕ) (given : Option ℕ) (m : Matrix) (answer : Bool) → k ≡ row → answer ≡ wrong_given given m → answer ≡ is_wrong_in_matrix k given m
+unfolding is_wrong_in_matrix both
+row_judged k None m answer r e = e ∙ sym (if_true _ _ (eq-eqb k row r))
+row_judged k (Some value) m answer r e = e ∙ sym (if_true _ _ (eq-eqb k row r))
+
 -- [Row] and [Bandwidth] are judged by the integer that they take
-pub by_value : (k : ℕ) (argument : List ℕ) (m : Matrix) (w : Whole) → w ≡ whole_of argument → (answer : Bool) → answer ≡ is_wrong_in_matrix k w m → answer ≡ is_wrong_in_matrix k (whole_of argument) m
-by_value k argument m w read answer h = h ∙ ap (λ (v : Whole). is_wrong_in_matrix k v m) read
+pub by_value : (k : ℕ) (argument : List ℕ) (m : Matrix) (w : Option ℕ) → w ≡ whole_of argument → (answer : Bool) → answer ≡ is_wrong_in_matrix k w m → answer ≡ is_wrong_in_matrix k (whole_of argument) m
+by_value k argument m w read answer h = h ∙ ap (λ (v : Option ℕ). is_wrong_in_matrix k v m) read
 
 -- ---- what is remembered
 
@@ -82,25 +93,25 @@ module _ (k : ℕ) (argument : List ℕ) (s : State) where
     matrix_opened h form f m e = e ∙ ap (λ (x : ℕ). new_matrix x s.counts.values) f ∙ sym (if_true _ _ (sym told ∙ h))
 
     module _ (h : opens ≡ false) where
-      pub row_opened : k ≡ row → (w : Whole) → w ≡ whole_of argument → (m : Matrix) → m ≡ with_row w.value s.matrix s.counts.values → m ≡ matrix_after k argument s
+      pub row_opened : k ≡ row → (w : Option ℕ) → w ≡ whole_of argument → (v : ℕ) → v ≡ unwrap_or w 0 → (m : Matrix) → m ≡ with_row v s.matrix s.counts.values → m ≡ matrix_after k argument s
       unfolding matrix_after
-      row_opened r w read m e = e ∙ ap (λ (x : Whole). with_row x.value s.matrix s.counts.values) read ∙ sym (if_false _ _ (sym told ∙ h) ∙ if_true _ _ (eq-eqb _ _ r))
+      row_opened r w read v g m e = e ∙ ap (λ (x : ℕ). with_row x s.matrix s.counts.values) (g ∙ ap (λ (x : Option ℕ). unwrap_or x 0) read) ∙ sym (if_false _ _ (sym told ∙ h) ∙ if_true _ _ (eq-eqb _ _ r))
 
       module _ (r : k ≡ row → ⊥) where
-        pub bandwidth_set : k ≡ bandwidth → (w : Whole) → w ≡ whole_of argument → (m : Matrix) → m ≡ with_bandwidth w.value s.matrix → m ≡ matrix_after k argument s
+        pub bandwidth_set : k ≡ bandwidth → (w : Option ℕ) → w ≡ whole_of argument → (v : ℕ) → v ≡ unwrap_or w 0 → (m : Matrix) → m ≡ with_bandwidth v s.matrix → m ≡ matrix_after k argument s
         unfolding matrix_after
-        bandwidth_set b w read m e = e ∙ ap (λ (x : Whole). with_bandwidth x.value s.matrix) read ∙ sym (if_false _ _ (sym told ∙ h) ∙ if_false _ _ (ne_eqb _ _ r) ∙ if_true _ _ (eq-eqb _ _ b))
+        bandwidth_set b w read v g m e = e ∙ ap (λ (x : ℕ). with_bandwidth x s.matrix) (g ∙ ap (λ (x : Option ℕ). unwrap_or x 0) read) ∙ sym (if_false _ _ (sym told ∙ h) ∙ if_false _ _ (ne_eqb _ _ r) ∙ if_true _ _ (eq-eqb _ _ b))
 
         pub matrix_kept : (k ≡ bandwidth → ⊥) → s.matrix ≡ matrix_after k argument s
         unfolding matrix_after
         matrix_kept b = sym (if_false _ _ (sym told ∙ h) ∙ if_false _ _ (ne_eqb _ _ r) ∙ if_false _ _ (ne_eqb _ _ b))
 
 -- a bandwidth that is not out of bounds is at most 255
-pub bandwidth_small : (k : ℕ) (argument : List ℕ) → is_out_of_bounds k argument ≡ false → (k ≡ row → ⊥) → k ≡ bandwidth → (w : Whole) → w ≡ whole_of argument → w.value ≤ most_bandwidth
+pub bandwidth_small : (k : ℕ) (argument : List ℕ) → is_out_of_bounds k argument ≡ false → (k ≡ row → ⊥) → k ≡ bandwidth → (w : Option ℕ) → w ≡ whole_of argument → (v : ℕ) → v ≡ unwrap_or w 0 → v ≤ most_bandwidth
 unfolding is_out_of_bounds
-bandwidth_small k argument e r b w read =
-    let f : ltb most_bandwidth (whole_of argument).value ≡ false = sym (if_false _ _ (ne_eqb _ _ r) ∙ if_true _ _ (eq-eqb _ _ b)) ∙ e in
-    rw read (ltb-false _ _ f)
+bandwidth_small k argument e r b w read v g =
+    let f : ltb most_bandwidth (unwrap_or (whole_of argument) 0) ≡ false = sym (if_false _ _ (ne_eqb _ _ r) ∙ if_true _ _ (eq-eqb _ _ b)) ∙ e in
+    rw (g, read) (ltb-false _ _ f)
 
 -- ---- [Row] and [Bandwidth] in a matrix
 
@@ -113,20 +124,23 @@ module _ (k : ℕ) (argument : List ℕ) (m : Matrix) where
   kept_bounds kept = all_kept (matrix_keyword_rules k argument m) numbered kept 2
 
   -- a keyword of the two that is not [Row] is [Bandwidth], and its argument is at most 255
-  pub kept_small : is_row_or_bandwidth k ≡ true → matrix_keyword_rule k argument m ≡ 0 → (k ≡ row → ⊥) → (w : Whole) → w ≡ whole_of argument → w.value ≤ most_bandwidth
+  pub kept_small : is_row_or_bandwidth k ≡ true → matrix_keyword_rule k argument m ≡ 0 → (k ≡ row → ⊥) → (w : Option ℕ) → w ≡ whole_of argument → (v : ℕ) → v ≡ unwrap_or w 0 → v ≤ most_bandwidth
   unfolding is_row_or_bandwidth
-  kept_small keeps kept r w read =
+  kept_small keeps kept r w read v g =
       let b : k ≡ bandwidth = eqb-true k bandwidth (sym (either_rest _ _ (ne_eqb k row r)) ∙ keeps) in
-      bandwidth_small k argument (kept_bounds kept) r b w read
+      bandwidth_small k argument (kept_bounds kept) r b w read v g
 
-  module _ (values : ℕ) (w : Whole) (read : w ≡ whole_of argument) (next : Matrix) where
-    pub kept_row : k ≡ row → next ≡ with_row w.value m values → next ≡ matrix_keyword_next k argument m values
-    unfolding matrix_keyword_next
-    kept_row r e = e ∙ ap (λ (x : Whole). with_row x.value m values) read ∙ sym (if_true _ _ (eq-eqb _ _ r))
+  module _ (values : ℕ) (w : Option ℕ) (read : w ≡ whole_of argument) (v : ℕ) (given : v ≡ unwrap_or w 0) (next : Matrix) where
+    v_is : v ≡ unwrap_or (whole_of argument) 0
+    v_is = given ∙ ap (λ (x : Option ℕ). unwrap_or x 0) read
 
-    pub kept_bandwidth : (k ≡ row → ⊥) → next ≡ with_bandwidth w.value m → next ≡ matrix_keyword_next k argument m values
+    pub kept_row : k ≡ row → next ≡ with_row v m values → next ≡ matrix_keyword_next k argument m values
     unfolding matrix_keyword_next
-    kept_bandwidth r e = e ∙ ap (λ (x : Whole). with_bandwidth x.value m) read ∙ sym (if_false _ _ (ne_eqb _ _ r))
+    kept_row r e = e ∙ ap (λ (x : ℕ). with_row x m values) v_is ∙ sym (if_true _ _ (eq-eqb _ _ r))
+
+    pub kept_bandwidth : (k ≡ row → ⊥) → next ≡ with_bandwidth v m → next ≡ matrix_keyword_next k argument m values
+    unfolding matrix_keyword_next
+    kept_bandwidth r e = e ∙ ap (λ (x : ℕ). with_bandwidth x m) v_is ∙ sym (if_false _ _ (ne_eqb _ _ r))
 
 pub counts_told : (k : ℕ) (c : Counts) (models maps sections matrices : ℕ) (opens : Bool) → opens ≡ opens_matrix k → models ≡ one_more_if (eqb k begin_icm_model) c.models → maps ≡ one_more_if (eqb k icm_pin_map) c.maps → sections ≡ one_more_if (eqb k begin_icm_section) c.sections → matrices ≡ one_more_if opens c.matrices → record { models = models; steps = c.steps; maps = maps; pins = c.pins; sections = sections; matrices = matrices; values = c.values } ≡ counts_after k c
 unfolding counts_after

@@ -1,13 +1,12 @@
 -- A keyword line between [Begin Header] and [End]: the rules that it may break, in the order of refusal, and what is
 -- remembered after it.
 -- Assumes nothing.
-use Rattle.std.specs.Prelude.{ℕ, ◌+◌, Bool, true, false, not, List, [], ◌∷◌, get_or, set, leb, eqb}
+use Rattle.std.specs.Prelude.{ℕ, ◌+◌, Bool, true, false, not, List, [], ◌∷◌, get_or, set, leb, eqb, unwrap_or, Option, is_some}
 use Rattle.table_layout.specs.Bounds.{most_models, most_maps, most_sections}
 use Rattle.base.specs.If.{provided◌then◌else◌, both, either}
 use Rattle.base.specs.Broken.{Rule, ◌when◌}
 use Rattle.base.specs.Refusal as refusal
 use Rattle.lex_number.specs.Integer.{whole_of}
-use Rattle.lex_number.specs.declared.Whole.{Whole}
 use Rattle.lex_keyword.specs.Names.{
   the_end,
   row,
@@ -132,8 +131,8 @@ unfoldable pub is_fork_open : State → Bool
 is_fork_open s = both (eqb s.place place.path) (path_open s.path)
 
 -- "[Row] or [Bandwidth] missing, surplus or out of order"; a [Row] that is no integer breaks 13, and no order
-unfoldable pub is_wrong_in_matrix : ℕ → Whole → Matrix → Bool
-is_wrong_in_matrix k given m = provided eqb k row then both given.formed (is_wrong_row given.value m) else is_wrong_bandwidth m
+unfoldable pub is_wrong_in_matrix : ℕ → Option ℕ → Matrix → Bool
+is_wrong_in_matrix k given m = provided eqb k row then both (is_some given) (is_wrong_row (unwrap_or given 0) m) else is_wrong_bandwidth m
 
 -- in a matrix, [Row] and [Bandwidth] are judged by their order, any other keyword by the matrix that it closes
 unfoldable pub is_matrix_broken : ℕ → List ℕ → State → Bool
@@ -211,8 +210,8 @@ section_after k argument s =
 unfoldable pub matrix_after : ℕ → List ℕ → State → Matrix
 matrix_after k argument s =
     provided opens_matrix k then new_matrix (form_of argument) s.counts.values else
-    provided eqb k row then with_row (whole_of argument).value s.matrix s.counts.values else
-    provided eqb k bandwidth then with_bandwidth (whole_of argument).value s.matrix else s.matrix
+    provided eqb k row then with_row (unwrap_or (whole_of argument) 0) s.matrix s.counts.values else
+    provided eqb k bandwidth then with_bandwidth (unwrap_or (whole_of argument) 0) s.matrix else s.matrix
 
 unfoldable pub one_more_if : Bool → ℕ → ℕ
 one_more_if b n = provided b then n + 1 else n

@@ -12,7 +12,6 @@ ghost use Rattle.line_map.specs.Way.Bounded.{BoundedMap};
 ghost use Rattle.line_keyword.specs.State.{start_state};
 ghost use Rattle.line_keyword.specs.Way.Rule.{keyword_rule};
 
-use lex_number::Whole;
 use line_head::Head;
 use line_map::Map;
 use line_matrix::Matrix;
@@ -244,16 +243,14 @@ fn is_fork_open(s: State) -> bool
 }
 
 // Whether a [Row] of this value, or a [Bandwidth], is out of order in a matrix.
-fn is_wrong_in_matrix(key: u64, given: Whole, m: Matrix) -> bool
+fn is_wrong_in_matrix(key: u64, given: Option<u64>, m: Matrix) -> bool
     ensures { result ≡ is_wrong_in_matrix key given m }
 {
     if key == lex_keyword::ROW {
-        if !given.formed {
-            return false;
-        }
-        return line_matrix::is_wrong_row(given.value, m);
+        given.is_some_and(|row| line_matrix::is_wrong_row(row, m))
+    } else {
+        line_matrix::is_wrong_bandwidth(m)
     }
-    line_matrix::is_wrong_bandwidth(m)
 }
 
 // The same, with the value read from the argument.
@@ -471,11 +468,11 @@ fn matrix_after(key: u64, argument: &[u8], s: State) -> Matrix
     }
     if key == lex_keyword::ROW {
         let row = lex_number::read_integer(argument);
-        return line_matrix::with_row(row.value, m, counts.values);
+        return line_matrix::with_row(row.unwrap_or(0), m, counts.values);
     }
     if key == lex_keyword::BANDWIDTH {
         let bandwidth = lex_number::read_integer(argument);
-        return line_matrix::with_bandwidth(bandwidth.value, m);
+        return line_matrix::with_bandwidth(bandwidth.unwrap_or(0), m);
     }
     m
 }
@@ -553,11 +550,12 @@ pub fn matrix_keyword_next(key: u64, argument: &[u8], m: Matrix, values: u64) ->
     requires { (is_row_or_bandwidth key ≡ true) × (matrix_keyword_rule key argument.now m ≡ 0) }
     ensures { result ≡ matrix_keyword_next key argument.now m values }
 {
-    let value = lex_number::read_integer(argument);
+    let value = lex_number::read_integer(argument).unwrap_or(0);
     if key == lex_keyword::ROW {
-        return line_matrix::with_row(value.value, m, values);
+        line_matrix::with_row(value, m, values)
+    } else {
+        line_matrix::with_bandwidth(value, m)
     }
-    line_matrix::with_bandwidth(value.value, m)
 }
 
 // What is remembered before the first line: nothing.

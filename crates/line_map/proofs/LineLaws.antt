@@ -1,6 +1,7 @@
 -- Laws of the lines of a map, as code uses them at its returns: how the count of words, the sign and the words found
 -- decide what a line says.
 -- Assumes nothing.
+use Rattle.std.proofs.Common.{Option, is_some, unwrap_or}
 use mathlib.Core.Path.{◌≡◌, sym, ◌∙◌, ap}
 use mathlib.Core.Bool.{Bool, true, false, not}
 use mathlib.Core.List.{List}
@@ -17,7 +18,6 @@ use Rattle.lex_line.specs.declared.FirstTwo.{FirstTwo}
 use Rattle.lex_line.specs.Words.{words, first_of, second_of, to_equals, has_equals, left_of, right_of}
 use Rattle.lex_line.specs.Way.Spans.{first_two_of, marked_by}
 use Rattle.lex_line.proofs.WordLaws.{first_marked, second_marked}
-use Rattle.lex_number.specs.declared.Whole.{Whole}
 use Rattle.lex_number.specs.Integer.{whole_of, is_whole_within}
 use Rattle.line_map.specs.declared.MapLine.{MapLine}
 use Rattle.line_map.specs.PinMap.{says_nothing, says_order, says_columns, says_rows, says_pin_list, order_of, wrong_map_line, order_line, list_line, size_line, map_line_of, is_pin_line}
@@ -79,8 +79,8 @@ module _ (s : List ℕ) (few : FirstTwo) (told : few ≡ first_two_of s) where
   pin_long h = not_via (le-ltb (length (words s)) 3 (omega (arith, counted)))
 
 -- a size as it is read: the integer, and whether it is within its bounds
-abbrev sized : ℕ → Whole → Bool → MapLine
-sized says whole fits = record { says = says; right = true; formed = whole.formed; bounded = fits; value = whole.value }
+abbrev sized : ℕ → Option ℕ → Bool → MapLine
+sized says whole fits = record { says = says; right = true; formed = is_some whole; bounded = fits; value = unwrap_or whole 0 }
 
 -- the position of the sign
 module _ (content : List ℕ) (sign : ℕ) (told : sign ≡ to_equals content) where
@@ -122,14 +122,14 @@ module _ (content : List ℕ) (sign : ℕ) (told : sign ≡ to_equals content) w
             e ∙ sym (if_false _ _ (both_rest _ _ has_sign_lem ∙ both_rest _ _ name_alone ∙ n))
 
         -- the integer after the sign
-        pub size_given : (word : List ℕ) (whole : Whole) (fits : Bool) → right.count ≡ 1 → word ≡ marked_by (take (length content - (sign + 1)) (drop (sign + 1) content)) right.first → whole ≡ whole_of word → fits ≡ is_whole_within 1 most_map_pins whole → sized says whole fits ≡ size_line says content
+        pub size_given : (word : List ℕ) (whole : Option ℕ) (fits formed : Bool) (value : ℕ) → right.count ≡ 1 → word ≡ marked_by (take (length content - (sign + 1)) (drop (sign + 1) content)) right.first → whole ≡ whole_of word → fits ≡ is_whole_within 1 most_map_pins whole → formed ≡ is_some whole → value ≡ unwrap_or whole 0 → record { says = says; right = true; formed = formed; bounded = fits; value = value } ≡ size_line says content
         unfolding size_line
-        size_given word whole fits h first read bounds =
+        size_given word whole fits formed value h first read bounds forms gives =
             let n : eqb (length (right_of content)) 1 ≡ true = ap (λ (ws : List (List ℕ)). eqb (length ws) 1) (sym right_is) ∙ one_word _ right told_right h in
             let w : whole ≡ whole_of (first_of (right_of content)) = read ∙ ap whole_of (first_told_lem _ right told_right word first ∙ ap first_of right_is) in
-            let b : fits ≡ is_whole_within 1 most_map_pins (whole_of (first_of (right_of content))) = bounds ∙ ap (λ (v : Whole). is_whole_within 1 most_map_pins v) w in
+            let b : fits ≡ is_whole_within 1 most_map_pins (whole_of (first_of (right_of content))) = bounds ∙ ap (λ (v : Option ℕ). is_whole_within 1 most_map_pins v) w in
             let r : sized says whole fits ≡ sized says (whole_of (first_of (right_of content))) (is_whole_within 1 most_map_pins (whole_of (first_of (right_of content)))) = λ i. sized says (w i) (b i) in
-            r ∙ sym (if_true _ _ (both_true _ _ has_sign_lem (both_true _ _ name_alone n)))
+            (λ i. record { says = says; right = true; formed = forms i; bounded = fits; value = gives i }) ∙ r ∙ sym (if_true _ _ (both_true _ _ has_sign_lem (both_true _ _ name_alone n)))
 
 -- what the first word says; t is whether it is Pin_order, u whether it is Pin_list
 module _ (content first : List ℕ) (t : Bool) (line : MapLine) (told : first ≡ first_of (words content)) (asked : t ≡ same first (bytes "Pin_order")) where

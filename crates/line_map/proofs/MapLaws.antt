@@ -2,7 +2,7 @@
 -- no rule is broken.
 -- Assumes nothing.
 use mathlib.Core.Path.{◌≡◌, sym, ◌∙◌}
-use mathlib.Core.Bool.{Bool, true, false, not}
+use mathlib.Core.Bool.{Bool, true, false}
 use mathlib.Core.List.{List}
 use Prim.Native.Nat.{ℕ, ◌*◌, ◌≤◌, ◌<◌}
 use native.Mathlib.Nat.{mul-le-mul}
@@ -13,23 +13,15 @@ use Rattle.table_layout.specs.Bounds.{most_pins, most_map_pins}
 use Rattle.base.specs.If.{provided◌then◌else◌, both, either}
 use Rattle.base.specs.Bytes.{bytes}
 use Rattle.base.specs.Runs.{same}
-use Rattle.base.proofs.IfLaws.{by_test, either_rest, either_left, either_none_first, not_via, not_not_via}
+use Rattle.base.proofs.IfLaws.{by_test, either_none_first}
 use Rattle.base.proofs.BrokenLaws.{all_kept}
 use Rattle.lex_line.specs.Words.{words, first_of, second_of, right_of}
 use Rattle.lex_number.proofs.IntegerLaws.{whole_most}
 use Rattle.line_map.specs.declared.Map.{Map}
 use Rattle.line_map.specs.declared.MapLine.{MapLine}
-use Rattle.line_map.specs.PinMap.{says_order, says_columns, says_rows, order_of, wrong_map_line, order_line, list_line, size_line, map_line_of, new_map, is_ordered, is_map_out_of_order, map_rules, map_next, pin_rules, with_pin}
+use Rattle.line_map.specs.PinMap.{says_order, says_columns, says_rows, order_of, wrong_map_line, order_line, list_line, size_line, map_line_of, new_map, is_map_out_of_order, map_rules, map_next, pin_rules, with_pin}
 use Rattle.line_map.specs.Way.Bounded.{BoundedMap}
 use Rattle.line_map.specs.Way.Rule.{map_rule, pin_rule}
-
--- t says whether the map is ordered
-module _ (m : Map) (given : ℕ) (t : Bool) (told : t ≡ is_ordered m) where
-  pub size_again : t ≡ true → not (eqb given 0) ≡ either (not (is_ordered m)) (not (eqb given 0))
-  size_again h = sym (either_rest _ _ (not_not_via (sym told ∙ h)))
-
-  pub size_early : t ≡ false → true ≡ either (not (is_ordered m)) (not (eqb given 0))
-  size_early h = sym (either_left _ _ (not_via (sym told ∙ h)))
 
 -- t says whether the line is out of order
 module _ (l : MapLine) (m : Map) (t : Bool) (told : t ≡ is_map_out_of_order l m) where

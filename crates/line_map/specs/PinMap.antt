@@ -5,7 +5,7 @@
 -- `says`, which of the four it is; whether its rest is `right`; whether its number is `formed` and `bounded`, true of a
 -- line without one; and the `value` that it gives.
 -- Assumes nothing.
-use Rattle.std.specs.Prelude.{ℕ, ◌+◌, ◌*◌, Bool, true, false, not, List, [], ◌∷◌, length, leb, ltb, eqb}
+use Rattle.std.specs.Prelude.{ℕ, ◌+◌, ◌*◌, Bool, true, false, not, List, [], ◌∷◌, length, leb, ltb, eqb, is_some, unwrap_or}
 use Rattle.table_layout.specs.Bounds.{most_pins, most_map_pins}
 use Rattle.base.specs.If.{provided◌then◌else◌, both, either}
 use Rattle.base.specs.Bytes.{bytes, within}
@@ -62,9 +62,9 @@ size_line says content =
     record {
       says = says;
       right = true;
-      formed = (whole_of (first_of (right_of content))).formed;
+      formed = is_some (whole_of (first_of (right_of content)));
       bounded = is_whole_within 1 most_map_pins (whole_of (first_of (right_of content)));
-      value = (whole_of (first_of (right_of content))).value;
+      value = unwrap_or (whole_of (first_of (right_of content))) 0;
     }
     else wrong_map_line says
 

@@ -137,9 +137,9 @@ fn size_line(says: u64, content: &[u8]) -> MapLine
     MapLine {
         says,
         right: true,
-        formed: whole.formed,
+        formed: whole.is_some(),
         bounded,
-        value: whole.value,
+        value: whole.unwrap_or(0),
     }
 }
 
@@ -186,20 +186,14 @@ pub fn new_map() -> Map
 fn is_ordered(m: Map) -> bool
     ensures { result ≡ is_ordered m }
 {
-    if m.order < ROW_ORDERED {
-        return false;
-    }
-    m.order <= COLUMN_ORDERED
+    ROW_ORDERED <= m.order && m.order <= COLUMN_ORDERED
 }
 
 // Whether a size line is out of order: sizes are "for the ordered two" only, and each is given once.
 fn takes_no_size(m: Map, given: u64) -> bool
     ensures { result ≡ either (not (is_ordered m)) (not (eqb given 0)) }
 {
-    if is_ordered(m) {
-        return given != 0;
-    }
-    true
+    !is_ordered(m) || given != 0
 }
 
 // Whether Pin_list is out of order:
@@ -207,35 +201,20 @@ fn takes_no_size(m: Map, given: u64) -> bool
 fn takes_no_list(m: Map) -> bool
     ensures { result ≡ either (eqb m.order 0) (both (is_ordered m) (either (eqb m.rows 0) (eqb m.columns 0))) }
 {
-    if m.order == 0 {
-        return true;
-    }
-    if is_ordered(m) {
-        if m.rows == 0 {
-            return true;
-        }
-        return m.columns == 0;
-    }
-    false
+    m.order == 0 || is_ordered(m) && (m.rows == 0 || m.columns == 0)
 }
 
 // "repeated or out of order 12"; a line that no map takes is 12 too.
 fn is_out_of_order(l: MapLine, m: Map) -> bool
     ensures { result ≡ is_map_out_of_order l m }
 {
-    if l.says == ORDER {
-        return m.order != 0;
+    match l.says {
+        ORDER => m.order != 0,
+        COLUMNS => takes_no_size(m, m.columns),
+        ROWS => takes_no_size(m, m.rows),
+        PIN_LIST => takes_no_list(m),
+        _ => true,
     }
-    if l.says == COLUMNS {
-        return takes_no_size(m, m.columns);
-    }
-    if l.says == ROWS {
-        return takes_no_size(m, m.rows);
-    }
-    if l.says == PIN_LIST {
-        return takes_no_list(m);
-    }
-    true
 }
 
 // The rule that a line above Pin_list breaks, 0 for none.
@@ -261,23 +240,17 @@ pub fn map_rule(l: MapLine, m: Map) -> u64
 fn given(l: MapLine, asked: u64, there: u64) -> u64
     ensures { result ≡ (provided eqb l.says asked then l.value else there) }
 {
-    if l.says == asked {
-        return l.value;
-    }
-    there
+    if l.says == asked { l.value } else { there }
 }
 
 // The map after a line above Pin_list that breaks no rule.
 pub fn map_next(l: MapLine, m: Map) -> Map
     ensures { result ≡ map_next l m }
 {
-    let order = given(l, ORDER, m.order);
-    let rows = given(l, ROWS, m.rows);
-    let columns = given(l, COLUMNS, m.columns);
     Map {
-        order,
-        rows,
-        columns,
+        order: given(l, ORDER, m.order),
+        rows: given(l, ROWS, m.rows),
+        columns: given(l, COLUMNS, m.columns),
         pins: m.pins,
     }
 }
@@ -306,10 +279,8 @@ pub fn with_pin(m: Map) -> Map
     ensures { result ≡ with_pin m }
 {
     Map {
-        order: m.order,
-        rows: m.rows,
-        columns: m.columns,
         pins: m.pins + 1,
+        ..m
     }
 }
 

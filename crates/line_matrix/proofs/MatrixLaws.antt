@@ -1,17 +1,16 @@
 -- Laws of matrices by which the code of this crate is proved: the premises of a law are what the code knows there.
 -- Assumes nothing.
+use Rattle.std.proofs.Common.{Option}
 use mathlib.Core.Path.{◌≡◌, refl, sym, ◌∙◌, ap}
-use mathlib.Core.Bool.{Bool, true, false, not}
+use mathlib.Core.Bool.{Bool, true, false, not, ◌&&◌}
 use mathlib.Core.List.{List, [], ◌∷◌}
-use Prim.Native.Nat.{ℕ, suc, ◌+◌, ◌-◌, ◌≤◌, ◌<◌, min, max}
+use Prim.Native.Nat.{ℕ, suc, ◌+◌, ◌-◌, ◌≤◌, ◌<◌, max}
 use native.Mathlib.Omega.{arith}
 use lib.ListN.{length, drop}
-use lib.Dec.{leb, ltb, eqb}
-use borrow.Author.Tests.{eq-eqb, ne_eqb, eqb-true, eqb-false, lt-ltb, le-ltb, ltb-true, ltb-false}
-use Rattle.table_layout.specs.Codes.{diagonal, sparse}
-use Rattle.table_layout.specs.Bounds.{most_values}
+use lib.Dec.{leb, ltb}
+use borrow.Author.Tests.{ltb-true, ltb-false}
 use Rattle.base.specs.If.{both}
-use Rattle.base.proofs.IfLaws.{if_true, if_false, by_cases, either_left, either_rest, both_rest, not_via, both_assoc}
+use Rattle.base.proofs.IfLaws.{if_true, if_false, by_cases, both_rest, both_assoc, both_and}
 use Rattle.line_matrix.specs.declared.Matrix.{Matrix}
 use Rattle.line_matrix.specs.declared.DataLine.{DataLine}
 use Rattle.line_matrix.specs.declared.NumberCheck.{NumberCheck}
@@ -22,50 +21,15 @@ use Rattle.lex_number.specs.Way.At.{word_from, number_at}
 use Rattle.lex_number.specs.declared.NumberAt.{NumberAt}
 use Rattle.lex_number.specs.Number.{number_of, is_formed, is_bounded}
 use Rattle.lex_number.specs.Integer.{whole_of}
-use Rattle.lex_number.specs.declared.Whole.{Whole}
 use Rattle.lex_line.specs.Words.{words, first_of, second_of}
 use Rattle.lex_line.specs.Way.Spans.{marked_by, word_span, first_two_of}
 use Rattle.lex_line.specs.declared.Span.{Span}
 use Rattle.lex_line.specs.declared.FirstTwo.{FirstTwo}
 use Rattle.lex_line.proofs.FormLaws.{counted, counted_not}
-use Rattle.lex_line.proofs.WordLaws.{words_after, after_at, after_none, after_past, end_past, word_ordered, word_within, first_marked, second_marked, few_none, few_one, few_two, few_three}
-use Rattle.line_matrix.specs.Matrix.{is_wrong_row, in_row, stands_above, still_fits, with_row, number_check, are_formed, are_bounded, numbers_line, pair_line, sparse_line, are_too_many, with_column}
+use Rattle.lex_line.proofs.WordLaws.{words_after, after_at, after_none, end_past, word_ordered, word_within, first_marked, second_marked, few_none, few_one, few_two, few_three}
+use Rattle.line_matrix.specs.Matrix.{in_row, still_fits, with_row, number_check, are_formed, are_bounded, numbers_line, pair_line, sparse_line, with_column}
 
 -- ---- rows
-
--- whether a row is the next one, decided without a sum that could wrap
-row_follows : (row last : ℕ) → (row ≡ 0 → ⊥) → eqb (row - 1) last ≡ eqb row (last + 1)
-row_follows row last h =
-    by_cases (eqb (row - 1) last ≡ eqb row (last + 1)) (eqb (row - 1) last)
-    (λ (e : eqb (row - 1) last ≡ true). let k : row - 1 ≡ last = eqb-true _ _ e in e ∙ sym (eq-eqb row (last + 1) (omega arith)))
-    (λ (e : eqb (row - 1) last ≡ false). e ∙ sym (ne_eqb row (last + 1) (λ (k : row ≡ last + 1). eqb-false (row - 1) last e (omega arith))))
-
-module _ (row : ℕ) (m : Matrix) (d : m.form ≡ diagonal → ⊥) (s : m.form ≡ sparse → ⊥) (b : m.band ≡ 0 → ⊥) where
-  row_rest : is_wrong_row row m ≡ not (eqb row (m.rows.row + 1))
-  unfolding is_wrong_row
-  row_rest = if_false _ _ (ne_eqb _ _ d) ∙ if_false _ _ (ne_eqb _ _ s) ∙ either_rest _ _ (ne_eqb _ _ b)
-
-  pub row_zero : row ≡ 0 → true ≡ is_wrong_row row m
-  row_zero e = sym (row_rest ∙ not_via (ne_eqb row (m.rows.row + 1) (λ (k : row ≡ m.rows.row + 1). omega arith)))
-
-  pub row_next : (row ≡ 0 → ⊥) → not (eqb (row - 1) m.rows.row) ≡ is_wrong_row row m
-  row_next h = ap not (row_follows row m.rows.row h) ∙ sym row_rest
-
-module _ (m : Matrix) (values : ℕ) where
-  pub above_first : m.rows.row < 2 → true ≡ stands_above m values
-  unfolding stands_above
-  above_first h = sym (either_left _ _ (lt-ltb _ _ h))
-
-  module _ (h : 2 ≤ m.rows.row) (count : ℕ) (told : count ≡ in_row m values) where
-    above_rest : (n : ℕ) → min m.band (count + 1) ≡ n → eqb m.rows.above n ≡ stands_above m values
-    unfolding stands_above
-    above_rest n e = sym (either_rest _ _ (le-ltb _ _ h) ∙ ap (λ (k : ℕ). eqb m.rows.above (min m.band (k + 1))) (sym told) ∙ ap (eqb m.rows.above) e)
-
-    pub above_more : count < m.band → eqb m.rows.above (count + 1) ≡ stands_above m values
-    above_more g = above_rest (count + 1) (omega arith)
-
-    pub above_band : m.band ≤ count → eqb m.rows.above m.band ≡ stands_above m values
-    above_band g = above_rest m.band (omega arith)
 
 pub row_added : (row : ℕ) (m : Matrix) (values above greatest : ℕ) (fits : Bool) → above ≡ in_row m values → greatest ≡ max m.rows.greatest row → fits ≡ still_fits m values → record { form = m.form; band = m.band; first = m.first; rows = record { row = row; above = above; from = values; least = row; greatest = greatest; fits = fits } } ≡ with_row row m values
 unfolding with_row
@@ -150,10 +114,6 @@ module _ (s : List ℕ) (at numbers : ℕ) (formed bounded : Bool) (pending : Pe
       let b : bounded ≡ are_bounded (words s) = sym (ap (both bounded) (ap are_bounded e ∙ bounded_nil) ∙ both_whole bounded) ∙ pending.in_bounds in
       λ i. record { numbers = n i; column = 0; right = true; formed = f i; bounded = b i }
 
-  -- at the end of the line no word is left
-  pub line_past : length s ≤ at → record { numbers = numbers; column = 0; right = true; formed = formed; bounded = bounded } ≡ numbers_line (words s)
-  line_past h = line_done (after_past s at h)
-
   module _ (word : Span) (found : word ≡ word_span s at) where
     line_ends : length s ≤ word.start → record { numbers = numbers; column = 0; right = true; formed = formed; bounded = bounded } ≡ numbers_line (words s)
     line_ends h = line_done (after_none s at (rw found at h))
@@ -177,11 +137,11 @@ module _ (s : List ℕ) (at numbers : ℕ) (formed bounded : Bool) (pending : Pe
     unfolding word_span
     line_blank h = line_ends (word_span s at) refl (rw begins at h)
 
-    pub line_number : (read : NumberAt) → read ≡ number_at s start → start < length s → (f b fits holds : Bool) → fits ≡ is_formed read.number → holds ≡ is_bounded read.number → f ≡ both formed fits → b ≡ both bounded holds → Pending s read.end (numbers + 1) f b
+    pub line_number : (read : NumberAt) → read ≡ number_at s start → start < length s → (fits holds : Bool) → fits ≡ is_formed read.number → holds ≡ is_bounded read.number → Pending s read.end (numbers + 1) (formed && fits) (bounded && holds)
     unfolding number_check
-    line_number read told h f b fits holds ef eb df db =
+    line_number read told h fits holds ef eb =
         let k : read.number ≡ number_of (marked_by s (record { start = start; end = read.end })) = placed_number s at start read begins told in
-        line_goes (record { start = start; end = read.end }) (placed_found s at start read begins told) h (record { formed = is_formed read.number; bounded = is_bounded read.number }) (λ i. record { formed = is_formed (k i); bounded = is_bounded (k i) }) f b (df ∙ ap (both formed) ef) (db ∙ ap (both bounded) eb)
+        line_goes (record { start = start; end = read.end }) (placed_found s at start read begins told) h (record { formed = is_formed read.number; bounded = is_bounded read.number }) (λ i. record { formed = is_formed (k i); bounded = is_bounded (k i) }) (formed && fits) (bounded && holds) (sym (both_and formed fits) ∙ ap (both formed) ef) (sym (both_and bounded holds) ∙ ap (both bounded) eb)
 
 -- a line of a Sparse_matrix: its first word, and the number after it
 module _ (s : List ℕ) (first : Span) (one : first ≡ word_span s 0) (start : ℕ) (begins : start ≡ run_end is_blank s first.end) where
@@ -225,7 +185,7 @@ module _ (s : List ℕ) (first : Span) (one : first ≡ word_span s 0) (start : 
         is ∙ other_line 3 (sym (ap (λ (f : FirstTwo). f.count) (few_three s first second third one is_second after first_stands there h))) (λ (k : 3 ≡ 2). omega arith)
 
     pub sparse_pair :
-        length s ≤ third → (part : List ℕ) → part ≡ marked_by s first → (column : Whole) → column ≡ whole_of part → (t : NumberCheck) →
+        length s ≤ third → (part : List ℕ) → part ≡ marked_by s first → (column : Option ℕ) → column ≡ whole_of part → (t : NumberCheck) →
         t ≡ record { formed = is_formed read.number; bounded = is_bounded read.number } → (r : DataLine) → r ≡ pair_line column t → r ≡ sparse_line (words s)
     unfolding second sparse_line number_check
     sparse_pair h part cut column whole t is r pair =
@@ -236,18 +196,6 @@ module _ (s : List ℕ) (first : Span) (one : first ≡ word_span s 0) (start : 
         pair ∙ (λ i. pair_line (w i) (v i)) ∙ sym (if_true _ _ (counted s _ two 2 (omega arith) refl))
 
 -- ---- the rule of a data line
-
-module _ (values numbers : ℕ) where
-  pub many_already : most_values < values → true ≡ are_too_many values numbers
-  unfolding are_too_many
-  many_already h = sym (lt-ltb most_values (values + numbers) (omega arith))
-
-  pub many_now : values ≤ most_values → ltb (most_values - values) numbers ≡ are_too_many values numbers
-  unfolding are_too_many
-  many_now h =
-      by_cases (ltb (most_values - values) numbers ≡ ltb most_values (values + numbers)) (ltb (most_values - values) numbers)
-      (λ (e : ltb (most_values - values) numbers ≡ true). let k : most_values - values < numbers = ltb-true _ _ e in e ∙ sym (lt-ltb most_values (values + numbers) (omega arith)))
-      (λ (e : ltb (most_values - values) numbers ≡ false). let k : numbers ≤ most_values - values = ltb-false _ _ e in e ∙ sym (le-ltb most_values (values + numbers) (omega arith)))
 
 pub column_added : (c : ℕ) (m : Matrix) (greatest : ℕ) (fits : Bool) → greatest ≡ max m.rows.greatest c → fits ≡ both m.rows.fits (leb m.rows.least c) → record { form = m.form; band = m.band; first = m.first; rows = record { row = m.rows.row; above = m.rows.above; from = m.rows.from; least = c + 1; greatest = greatest; fits = fits } } ≡ with_column c m
 unfolding with_column

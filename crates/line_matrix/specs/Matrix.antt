@@ -9,7 +9,7 @@
 -- `right` count of words; whether these are numbers (`formed`) and within their bounds (`bounded`).
 -- `values` is how many values have been read in the whole file, so that the numbers of a row are those since `from`.
 -- Assumes nothing.
-use Rattle.std.specs.Prelude.{ℕ, ◌+◌, ◌-◌, min, max, Bool, true, false, not, List, [], ◌∷◌, length, leb, ltb, eqb}
+use Rattle.std.specs.Prelude.{ℕ, ◌+◌, ◌-◌, min, max, Bool, true, false, not, List, [], ◌∷◌, length, leb, ltb, eqb, Option, is_some, unwrap_or}
 use Rattle.table_layout.specs.Codes.{diagonal, banded, sparse, full}
 use Rattle.table_layout.specs.Bounds.{most_values, most_conductors}
 use Rattle.base.specs.If.{provided◌then◌else◌, both, either}
@@ -18,7 +18,6 @@ use Rattle.base.specs.Refusal as refusal
 use Rattle.lex_line.specs.Words.{words, first_of, second_of}
 use Rattle.lex_number.specs.Number.{number_of, is_formed, is_bounded}
 use Rattle.lex_number.specs.Integer.{whole_of, is_whole_within}
-use Rattle.lex_number.specs.declared.Whole.{Whole}
 use Rattle.line_matrix.specs.declared.Matrix.{Matrix}
 use Rattle.line_matrix.specs.declared.DataLine.{DataLine}
 use Rattle.line_matrix.specs.declared.NumberCheck.{NumberCheck}
@@ -101,13 +100,13 @@ unfoldable pub numbers_line : List (List ℕ) → DataLine
 numbers_line ws = record { numbers = length ws; column = 0; right = true; formed = are_formed ws; bounded = are_bounded ws }
 
 -- a sparse line: its column, and the check of the word after it
-abbrev pub pair_line : Whole → NumberCheck → DataLine
+abbrev pub pair_line : Option ℕ → NumberCheck → DataLine
 pair_line column check =
     record {
       numbers = 1;
-      column = column.value;
+      column = unwrap_or column 0;
       right = true;
-      formed = both column.formed check.formed;
+      formed = both (is_some column) check.formed;
       bounded = both (is_whole_within 1 most_conductors column) check.bounded;
     }
 

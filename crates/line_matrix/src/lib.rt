@@ -8,7 +8,7 @@ ghost use Rattle.lex_line.specs.Words.{words};
 ghost use Rattle.line_matrix.specs.Matrix.{new_matrix, is_wrong_bandwidth, is_wrong_row, with_bandwidth, in_row, stands_above, still_fits, with_row, numbers_line, pair_line, sparse_line, data_line_of, is_data_out_of_order, are_too_many, shape_conductors, is_shaped, is_wrong_shape, is_too_wide};
 ghost use Rattle.line_matrix.specs.Way.Rule.{data_rule};
 
-use lex_number::{Number, Whole};
+use lex_number::NumberError;
 
 // What has been read of the rows of a matrix: the number of the last [Row], how many numbers the row above it has, how
 // many values the file has before it, the least column that may come next, the greatest row or column named, and
@@ -47,27 +47,23 @@ pub struct DataLine {
 pub fn new_matrix(form: u64, values: u64) -> Matrix
     ensures { result ≡ new_matrix form values }
 {
-    let rows = Rows {
-        row: 0,
-        above: 0,
-        from: values,
-        least: 0,
-        greatest: 0,
-        fits: true,
+    let band = if form == table_layout::code::FULL {
+        table_layout::bound::CONDUCTORS
+    } else {
+        0
     };
-    if form == table_layout::code::FULL {
-        return Matrix {
-            form,
-            band: table_layout::bound::CONDUCTORS,
-            first: values,
-            rows,
-        };
-    }
     Matrix {
         form,
-        band: 0,
+        band,
         first: values,
-        rows,
+        rows: Rows {
+            row: 0,
+            above: 0,
+            from: values,
+            least: 0,
+            greatest: 0,
+            fits: true,
+        },
     }
 }
 
@@ -75,14 +71,7 @@ pub fn new_matrix(form: u64, values: u64) -> Matrix
 pub fn is_wrong_bandwidth(m: Matrix) -> bool
     ensures { result ≡ is_wrong_bandwidth m }
 {
-    if m.form != table_layout::code::BANDED {
-        return true;
-    }
-    if m.band != 0 {
-        return true;
-    }
-    let rows = m.rows;
-    rows.row != 0
+    m.form != table_layout::code::BANDED || m.band != 0 || m.rows.row != 0
 }
 
 // Whether a [Row] is wrong. In a Full_matrix or a Banded_matrix, which needs its [Bandwidth] first, it must be the next
@@ -90,89 +79,52 @@ pub fn is_wrong_bandwidth(m: Matrix) -> bool
 pub fn is_wrong_row(row: u64, m: Matrix) -> bool
     ensures { result ≡ is_wrong_row row m }
 {
-    let rows = m.rows;
-    if m.form == table_layout::code::DIAGONAL {
-        return true;
+    match m.form {
+        table_layout::code::DIAGONAL => true,
+        table_layout::code::SPARSE => row <= m.rows.row,
+        _ => m.band == 0 || row == 0 || row - 1 != m.rows.row,
     }
-    if m.form == table_layout::code::SPARSE {
-        return row <= rows.row;
-    }
-    if m.band == 0 {
-        return true;
-    }
-    if row == 0 {
-        return true;
-    }
-    row - 1 != rows.row
 }
 
 pub fn with_bandwidth(b: u64, m: Matrix) -> Matrix
     requires { b ≤ most_bandwidth }
     ensures { result ≡ with_bandwidth b m }
 {
-    let rows = m.rows;
-    Matrix {
-        form: m.form,
-        band: b + 1,
-        first: m.first,
-        rows,
-    }
+    Matrix { band: b + 1, ..m }
 }
 
 fn in_row(m: Matrix, values: u64) -> u64
     ensures { result ≡ in_row m values }
 {
-    let rows = m.rows;
-    base::minus(values, rows.from)
+    values.saturating_sub(m.rows.from)
 }
 
 // Whether the row above has one number more than the present row, or as many as the band allows.
 fn stands_above(m: Matrix, values: u64) -> bool
     ensures { result ≡ stands_above m values }
 {
-    let rows = m.rows;
-    if rows.row < 2 {
-        return true;
-    }
-    let count = in_row(m, values);
-    if count < m.band {
-        return rows.above == count + 1;
-    }
-    rows.above == m.band
+    m.rows.row < 2 || m.rows.above == m.band.min(in_row(m, values).saturating_add(1))
 }
 
 // Whether everything so far fits, including the row that ends at the next [Row].
 fn still_fits(m: Matrix, values: u64) -> bool
     ensures { result ≡ still_fits m values }
 {
-    let rows = m.rows;
-    if !rows.fits {
-        return false;
-    }
-    if m.form == table_layout::code::SPARSE {
-        return true;
-    }
-    stands_above(m, values)
+    m.rows.fits && (m.form == table_layout::code::SPARSE || stands_above(m, values))
 }
 
 pub fn with_row(row: u64, m: Matrix, values: u64) -> Matrix
     ensures { result ≡ with_row row m values }
 {
-    let rows = m.rows;
-    let next = Rows {
+    let rows = Rows {
         row,
         above: in_row(m, values),
         from: values,
         least: row,
-        greatest: base::greater(rows.greatest, row),
+        greatest: m.rows.greatest.max(row),
         fits: still_fits(m, values),
     };
-    Matrix {
-        form: m.form,
-        band: m.band,
-        first: m.first,
-        rows: next,
-    }
+    Matrix { rows, ..m }
 }
 
 // Whether a word of a data line is a number, and whether the number is within its bounds.
@@ -182,7 +134,7 @@ struct NumberCheck {
     bounded: bool,
 }
 
-fn number_check(number: Number) -> NumberCheck
+fn number_check(number: Result<u64, NumberError>) -> NumberCheck
     ensures { result ≡ record { formed = is_formed number; bounded = is_bounded number } }
 {
     NumberCheck {
@@ -191,7 +143,7 @@ fn number_check(number: Number) -> NumberCheck
     }
 }
 
-// Reads a line of numbers. Each number is read in place, in one pass.
+// Reads a line of numbers. Each number is read in place, in one pass: the place goes on by what was read, so no iterator fits.
 fn numbers_line(content: &[u8]) -> DataLine
     ensures { result ≡ numbers_line (words content.now) }
 {
@@ -199,7 +151,7 @@ fn numbers_line(content: &[u8]) -> DataLine
     let mut numbers = 0;
     let mut formed = true;
     let mut bounded = true;
-    while at < content.len() {
+    loop {
         let start = base::past_blanks(content, at);
         if content.len() <= start {
             return DataLine {
@@ -212,17 +164,10 @@ fn numbers_line(content: &[u8]) -> DataLine
         }
         let read = lex_number::number_at(content, start);
         let number = read.number;
-        formed = base::and(formed, lex_number::is_formed(number));
-        bounded = base::and(bounded, lex_number::is_bounded(number));
+        formed &= lex_number::is_formed(number);
+        bounded &= lex_number::is_bounded(number);
         numbers += 1;
         at = read.end;
-    }
-    DataLine {
-        numbers,
-        column: 0,
-        right: true,
-        formed,
-        bounded,
     }
 }
 
@@ -240,18 +185,16 @@ fn not_two() -> DataLine
 }
 
 // A column and a value.
-fn pair_line(column: Whole, told: NumberCheck) -> DataLine
+fn pair_line(column: Option<u64>, told: NumberCheck) -> DataLine
     ensures { result ≡ pair_line column told }
 {
     DataLine {
         numbers: 1,
-        column: column.value,
+        column: column.unwrap_or(0),
         right: true,
-        formed: base::and(column.formed, told.formed),
-        bounded: base::and(
-            lex_number::is_whole_within(1, table_layout::bound::CONDUCTORS, column),
-            told.bounded,
-        ),
+        formed: column.is_some() & told.formed,
+        bounded: lex_number::is_whole_within(1, table_layout::bound::CONDUCTORS, column)
+            & told.bounded,
     }
 }
 
@@ -278,33 +221,24 @@ pub fn data_line(form: u64, content: &[u8]) -> DataLine
     ensures { result ≡ data_line_of form content.now }
 {
     if form == table_layout::code::SPARSE {
-        return sparse_line(content);
+        sparse_line(content)
+    } else {
+        numbers_line(content)
     }
-    numbers_line(content)
 }
 
 // Whether a line is above the first [Row] of a form with rows, or has a count of words that its form does not take.
 fn is_out_of_order(l: DataLine, m: Matrix) -> bool
     ensures { result ≡ is_data_out_of_order l m }
 {
-    let rows = m.rows;
-    if !l.right {
-        return true;
-    }
-    if m.form == table_layout::code::DIAGONAL {
-        return false;
-    }
-    rows.row == 0
+    !l.right || m.form != table_layout::code::DIAGONAL && m.rows.row == 0
 }
 
 // Whether this many more numbers exceed the bound. The code does not form the sum, which could wrap.
 fn are_too_many(values: u64, numbers: u64) -> bool
     ensures { result ≡ are_too_many values numbers }
 {
-    if table_layout::bound::VALUES < values {
-        return true;
-    }
-    table_layout::bound::VALUES - values < numbers
+    table_layout::bound::VALUES < values || table_layout::bound::VALUES - values < numbers
 }
 
 pub fn data_rule(l: DataLine, m: Matrix, values: u64) -> u64
@@ -330,34 +264,22 @@ pub fn data_rule(l: DataLine, m: Matrix, values: u64) -> u64
 pub fn conductors_of(m: Matrix, values: u64) -> u64
     ensures { result ≡ shape_conductors m values }
 {
-    let rows = m.rows;
-    if m.form == table_layout::code::DIAGONAL {
-        return base::minus(values, m.first);
+    match m.form {
+        table_layout::code::DIAGONAL => values.saturating_sub(m.first),
+        table_layout::code::SPARSE => m.rows.greatest,
+        _ => m.rows.row,
     }
-    if m.form == table_layout::code::SPARSE {
-        return rows.greatest;
-    }
-    rows.row
 }
 
 // Whether all rows have the right length, the last one a single number; in a Sparse_matrix, whether the columns rise.
 fn is_shaped(m: Matrix, values: u64) -> bool
     ensures { result ≡ is_shaped m values }
 {
-    let rows = m.rows;
-    if m.form == table_layout::code::DIAGONAL {
-        return true;
+    match m.form {
+        table_layout::code::DIAGONAL => true,
+        table_layout::code::SPARSE => m.rows.fits,
+        _ => m.rows.fits && stands_above(m, values) && in_row(m, values) == 1,
     }
-    if m.form == table_layout::code::SPARSE {
-        return rows.fits;
-    }
-    if !rows.fits {
-        return false;
-    }
-    if !stands_above(m, values) {
-        return false;
-    }
-    in_row(m, values) == 1
 }
 
 // Whether the shape is wrong at the keyword that closes a matrix: no number, a wrong row, or another N than the earlier
@@ -365,24 +287,13 @@ fn is_shaped(m: Matrix, values: u64) -> bool
 pub fn is_wrong_shape(m: Matrix, known: u64, values: u64) -> bool
     ensures { result ≡ is_wrong_shape m known values }
 {
-    if values <= m.first {
-        return true;
-    }
-    if !is_shaped(m, values) {
-        return true;
-    }
-    if known == 0 {
-        return false;
-    }
-    known != conductors_of(m, values)
+    values <= m.first || !is_shaped(m, values) || known != 0 && known != conductors_of(m, values)
 }
 
 // Whether a Diagonal_matrix has more numbers than there may be conductors.
 pub fn is_too_wide(m: Matrix, values: u64) -> bool
     ensures { result ≡ is_too_wide m values }
 {
-    if m.form != table_layout::code::DIAGONAL {
-        return false;
-    }
-    table_layout::bound::CONDUCTORS < conductors_of(m, values)
+    m.form == table_layout::code::DIAGONAL
+        && table_layout::bound::CONDUCTORS < conductors_of(m, values)
 }

@@ -1,18 +1,18 @@
 -- Laws of the rules of a path: the code, making one test after another, returns what each definition gives.
 -- Assumes nothing.
-use mathlib.Core.Path.{◌≡◌, refl, sym, ◌∙◌, ap}
+use mathlib.Core.Path.{◌≡◌, refl, sym, ◌∙◌}
 use mathlib.Core.Bool.{Bool, true, false, not}
-use Prim.Native.Nat.{ℕ, ◌-◌, ◌≤◌, ◌<◌}
+use Prim.Native.Nat.{ℕ, ◌≤◌, ◌<◌}
 use native.Mathlib.Omega.{arith}
-use lib.Dec.{leb, ltb, eqb}
-use borrow.Author.Tests.{eq-eqb, ne_eqb, le-leb, lt-leb, lt-ltb, le-ltb, not-true, not-false}
+use lib.Dec.{leb, eqb}
+use borrow.Author.Tests.{eq-eqb, ne_eqb, le-leb, lt-leb, not-true, not-false}
 use Rattle.table_layout.specs.Bounds.{deepest, most_steps}
-use Rattle.base.specs.If.{provided◌then◌else◌, both, either}
+use Rattle.base.specs.If.{both}
 use Rattle.base.specs.Broken.{first}
 use Rattle.base.specs.Refusal as refusal
-use Rattle.base.proofs.IfLaws.{if_true, if_false, both_true, both_rest, both_not_left, both_not_right, either_left, either_rest, either_comes, either_false, not_via, not_not_via}
+use Rattle.base.proofs.IfLaws.{both_true, both_rest, both_not_left, both_not_right, either_rest, either_comes, not_via, not_not_via}
 use Rattle.base.proofs.BrokenLaws.{gives_first, gives_later, lists_yes, lists_no}
-use Rattle.line_path.specs.Path.{says_end, says_side, says_section, says_fork, says_endfork, items, closed, is_bad_fork, is_step_line, path_next}
+use Rattle.line_path.specs.Path.{says_side, says_fork, says_endfork, closed, is_bad_fork, is_step_line}
 use Rattle.line_path.specs.declared.Path.{Path}
 use Rattle.line_path.specs.declared.PathLine.{PathLine}
 use Rattle.line_path.specs.Way.Rule.{open_rule, closed_rule, path_rule}
@@ -29,25 +29,6 @@ module _ (l : PathLine) (p : Path) where
     pub bad_endfork : l.says ≡ says_endfork → eqb p.depth 0 ≡ is_bad_fork l p
     unfolding is_bad_fork
     bad_endfork e = sym (either_rest _ _ (both_not_left _ _ (ne_eqb _ _ n)) ∙ both_rest _ _ (eq-eqb _ _ e))
-
-    pub bad_neither : (l.says ≡ says_endfork → ⊥) → false ≡ is_bad_fork l p
-    unfolding is_bad_fork
-    bad_neither m = sym (either_false _ _ (both_not_left _ _ (ne_eqb _ _ n)) (both_not_left _ _ (ne_eqb _ _ m)))
-
--- ---- 12
-
-module _ (stage : ℕ) (ended : Bool) where
-  pub fork_early : stage < items → true ≡ either (ltb stage items) ended
-  fork_early h = sym (either_left _ _ (lt-ltb stage items h))
-
-  pub fork_late : items ≤ stage → ended ≡ either (ltb stage items) ended
-  fork_late h = sym (either_rest _ _ (le-ltb stage items h))
-
--- of the lines that are left, only an Endfork is not out of order
-pub no_endfork : (b : Bool) → not b ≡ (provided b then false else true)
-unfolding provided◌then◌else◌
-no_endfork true = refl
-no_endfork false = refl
 
 -- ---- 17; t says whether the line is a step
 
@@ -94,11 +75,3 @@ module _ (l : PathLine) (p : Path) (steps : ℕ) where
   pub path_open_lem : eqb p.stage closed ≡ false → path_rule l p steps ≡ open_rule l p steps
   unfolding path_rule open_rule
   path_open_lem e = lists_no _ _ _ e
-
--- ---- one open block less
-
-pub next_endfork : (l : PathLine) (p : Path) (depth : ℕ) → (l.says ≡ says_end → ⊥) → (l.says ≡ says_section → ⊥) → (l.says ≡ says_fork → ⊥) → l.says ≡ says_endfork → depth ≡ p.depth - 1 → record { stage = items; depth = depth; ended = false; side = false } ≡ path_next l p
-unfolding path_next
-next_endfork l p depth n m o e h =
-    ap (λ (d : ℕ). record { stage = items; depth = d; ended = false; side = false }) h
-    ∙ sym (if_false _ _ (ne_eqb _ _ n) ∙ if_false _ _ (ne_eqb _ _ m) ∙ if_false _ _ (ne_eqb _ _ o) ∙ if_true _ _ (eq-eqb _ _ e))

@@ -1,5 +1,6 @@
 -- Laws of a Section line: reading it part by part gives the line of its definition, and if it is right, its parts.
 -- Assumes nothing.
+use Rattle.std.proofs.Common.{is_some, unwrap_or, Option}
 use mathlib.Core.Path.{◌≡◌, refl, sym, ◌∙◌, ap}
 use mathlib.Core.Bool.{Bool, true, false, true≢false}
 use mathlib.Core.List.{List}
@@ -18,10 +19,8 @@ use Rattle.lex_line.specs.declared.FirstTwo.{FirstTwo}
 use Rattle.lex_line.specs.declared.Span.{Span}
 use Rattle.lex_line.proofs.WordLaws.{second_ordered, second_within, first_marked, second_marked}
 use Rattle.lex_line.proofs.FormLaws.{counted, counted_not, part_from, sign_none, sign_there, left_words, right_words}
-use Rattle.lex_number.specs.Number.{number_of, is_formed, word_in}
+use Rattle.lex_number.specs.Number.{number_of, is_formed, word_in, Number}
 use Rattle.lex_number.specs.Integer.{whole_of, is_whole_within}
-use Rattle.lex_number.specs.declared.Number.{Number}
-use Rattle.lex_number.specs.declared.Whole.{Whole}
 use Rattle.line_argument.specs.Argument.{is_reserved}
 use Rattle.line_path.specs.Path.{says_section, is_length, is_mult, is_section_line, amount_formed, amount_bounded, section_line}
 use Rattle.line_path.specs.Way.Section.{span_from, plain_parts, wrong_section, amount_in, amount_line, unit_line, is_parted, parts_line, name_right, section_parts}
@@ -31,15 +30,15 @@ use Rattle.table_layout.specs.Bounds.{most_mult}
 -- ---- the amount
 
 pub amount_mult :
-    (mult : Bool) (amount : List ℕ) (name : Span) (times : Whole) (inside : Bool) → mult ≡ true → times ≡ whole_of amount →
-    inside ≡ is_whole_within 1 most_mult times →
-    record { line = record { says = says_section; right = true; formed = times.formed; bounded = inside }; name = name; amount = times.value; mult = mult }
+    (mult : Bool) (amount : List ℕ) (name : Span) (times : Option ℕ) (formed inside : Bool) (value : ℕ) → mult ≡ true → times ≡ whole_of amount →
+    formed ≡ is_some times → inside ≡ is_whole_within 1 most_mult times → value ≡ unwrap_or times 0 →
+    record { line = record { says = says_section; right = true; formed = formed; bounded = inside }; name = name; amount = value; mult = mult }
     ≡ amount_line mult amount name
 unfolding amount_line amount_formed amount_bounded amount_in
-amount_mult mult amount name times inside e k h =
-    let f : times.formed ≡ (provided mult then (whole_of amount).formed else is_formed (number_of amount)) = ap (λ (w : Whole). w.formed) k ∙ sym (if_true _ _ e) in
-    let b : inside ≡ (provided mult then is_whole_within 1 most_mult (whole_of amount) else is_length (number_of amount)) = h ∙ ap (λ (w : Whole). is_whole_within 1 most_mult w) k ∙ sym (if_true _ _ e) in
-    let v : times.value ≡ (provided mult then (whole_of amount).value else word_in (number_of amount)) = ap (λ (w : Whole). w.value) k ∙ sym (if_true _ _ e) in
+amount_mult mult amount name times formed inside value e k g h w =
+    let f : formed ≡ (provided mult then is_some (whole_of amount) else is_formed (number_of amount)) = g ∙ ap (λ (w : Option ℕ). is_some w) k ∙ sym (if_true _ _ e) in
+    let b : inside ≡ (provided mult then is_whole_within 1 most_mult (whole_of amount) else is_length (number_of amount)) = h ∙ ap (λ (w : Option ℕ). is_whole_within 1 most_mult w) k ∙ sym (if_true _ _ e) in
+    let v : value ≡ (provided mult then unwrap_or (whole_of amount) 0 else word_in (number_of amount)) = w ∙ ap (λ (w : Option ℕ). unwrap_or w 0) k ∙ sym (if_true _ _ e) in
     λ i. record { line = record { says = says_section; right = true; formed = f i; bounded = b i }; name = name; amount = v i; mult = mult }
 
 pub amount_length :
@@ -49,9 +48,9 @@ pub amount_length :
     ≡ amount_line mult amount name
 unfolding amount_line amount_formed amount_bounded amount_in
 amount_length mult amount name n formed bounded word e k f b w =
-    let g : formed ≡ (provided mult then (whole_of amount).formed else is_formed (number_of amount)) = f ∙ ap is_formed k ∙ sym (if_false _ _ e) in
+    let g : formed ≡ (provided mult then is_some (whole_of amount) else is_formed (number_of amount)) = f ∙ ap is_formed k ∙ sym (if_false _ _ e) in
     let h : bounded ≡ (provided mult then is_whole_within 1 most_mult (whole_of amount) else is_length (number_of amount)) = b ∙ ap is_length k ∙ sym (if_false _ _ e) in
-    let v : word ≡ (provided mult then (whole_of amount).value else word_in (number_of amount)) = w ∙ ap word_in k ∙ sym (if_false _ _ e) in
+    let v : word ≡ (provided mult then unwrap_or (whole_of amount) 0 else word_in (number_of amount)) = w ∙ ap word_in k ∙ sym (if_false _ _ e) in
     λ i. record { line = record { says = says_section; right = true; formed = g i; bounded = h i }; name = name; amount = v i; mult = mult }
 
 -- ---- the words before the sign and after it

@@ -5,7 +5,7 @@
 -- and `side`, whether the next line may be a Side. What a line says is a `PathLine`: `says`, which of the five it is;
 -- whether its rest is `right`; and whether its number is `formed` and `bounded`, true of a line without one.
 -- Assumes nothing.
-use Rattle.std.specs.Prelude.{ℕ, ◌+◌, ◌-◌, ◌%◌, Bool, true, false, not, List, [], ◌∷◌, length, leb, ltb, eqb}
+use Rattle.std.specs.Prelude.{ℕ, ◌+◌, ◌-◌, ◌%◌, Bool, true, false, not, List, [], ◌∷◌, length, leb, ltb, eqb, is_some, unwrap_or, Ok, Err}
 use Rattle.table_layout.specs.Bounds.{deepest, most_steps, most_mult}
 use Rattle.base.specs.If.{provided◌then◌else◌, both, either}
 use Rattle.base.specs.Bytes.{bytes}
@@ -13,11 +13,10 @@ use Rattle.base.specs.Runs.{same}
 use Rattle.base.specs.Broken.{Rule, ◌when◌}
 use Rattle.base.specs.Refusal as refusal
 use Rattle.lex_line.specs.Words.{words, first_of, second_of, has_equals, left_of, right_of}
-use Rattle.lex_number.specs.Number.{number_of, is_formed, word_in}
+use Rattle.lex_number.specs.Number.{number_of, is_formed, word_in, Number}
 use Rattle.lex_number.specs.Integer.{whole_of, is_whole_within}
 use Rattle.lex_number.specs.ValueWord.{zero_word}
-use Rattle.lex_number.specs.declared.Number.{Number}
-use Rattle.lex_number.specs.declared.Number.TheVariants.{Value, Malformed, Range}
+use Rattle.lex_number.specs.declared.NumberError.TheVariants.{Malformed, Range}
 use Rattle.line_argument.specs.Argument.{is_reserved}
 use Rattle.line_path.specs.declared.Path.{Path}
 use Rattle.line_path.specs.declared.PathLine.{PathLine}
@@ -59,9 +58,9 @@ names_one ws = both (eqb (length ws) 2) (not (is_reserved (second_of ws)))
 
 -- "Len=v name (v above zero)": "Zero is 14 only as a Len". A word that is no number is 13, and not 14
 abbrev pub is_length : Number → Bool
-is_length (Value w) = both (not (eqb w zero_word)) (eqb (w % 2) 0)
-is_length Malformed = true
-is_length Range = false
+is_length (Ok w) = both (not (eqb w zero_word)) (eqb (w % 2) 0)
+is_length (Err Malformed) = true
+is_length (Err Range) = false
 
 -- "`Section Mult=n name`, `Section Len=v name`"
 unfoldable pub is_mult : List ℕ → Bool
@@ -70,7 +69,7 @@ is_mult content = same (second_of (left_of content)) (bytes "Mult")
 -- "amount: Mult, the Len value word"
 unfoldable pub amount_of : List ℕ → ℕ
 amount_of content =
-    provided is_mult content then (whole_of (first_of (right_of content))).value else word_in (number_of (first_of (right_of content)))
+    provided is_mult content then unwrap_or (whole_of (first_of (right_of content))) 0 else word_in (number_of (first_of (right_of content)))
 
 unfoldable pub is_section_line : List ℕ → Bool
 is_section_line content =
@@ -79,7 +78,7 @@ is_section_line content =
     (both (either (is_mult content) (same (second_of (left_of content)) (bytes "Len"))) (not (is_reserved (second_of (right_of content))))))
 
 unfoldable pub amount_formed : Bool → List ℕ → Bool
-amount_formed mult amount = provided mult then (whole_of amount).formed else is_formed (number_of amount)
+amount_formed mult amount = provided mult then is_some (whole_of amount) else is_formed (number_of amount)
 
 unfoldable pub amount_bounded : Bool → List ℕ → Bool
 amount_bounded mult amount = provided mult then is_whole_within 1 most_mult (whole_of amount) else is_length (number_of amount)

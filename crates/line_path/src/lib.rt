@@ -6,14 +6,13 @@ ghost use Rattle.table_layout.specs.Bounds.{deepest};
 ghost use Rattle.base.specs.If.{either};
 ghost use Rattle.lex_line.specs.Words.{words};
 ghost use Rattle.lex_line.specs.Way.Spans.{first_two_of};
-ghost use Rattle.lex_number.specs.declared.Number.TheVariants.{Value};
 ghost use Rattle.line_path.specs.Path.{says_fork, says_endfork, says_end, says_side, saying_of, names_one, is_length, new_path, is_bad_fork, is_path_out_of_order, is_step_line, with_end, path_next, path_open, path_lacks};
 ghost use Rattle.line_path.specs.Way.Section.{span_from, plain_parts, amount_line, unit_line, parts_line, section_parts};
 ghost use Rattle.line_path.specs.Way.Parts.{named_parts, said_parts, parts_of, ParsesLine};
 ghost use Rattle.line_path.specs.Way.Rule.{open_rule, closed_rule, path_rule};
 
 use lex_line::{FirstTwo, Span};
-use lex_number::Number;
+use lex_number::NumberError;
 
 pub mod fast;
 
@@ -101,8 +100,8 @@ fn plain_line(says: u64, right: bool) -> PathParts
 {
     PathParts {
         line: PathLine {
-            says: says,
-            right: right,
+            says,
+            right,
             formed: true,
             bounded: true,
         },
@@ -117,32 +116,26 @@ fn names_one(content: &[u8], few: FirstTwo) -> bool
     requires { few ≡ first_two_of content.now }
     ensures { result ≡ names_one (words content.now) }
 {
-    if few.count != 2 {
-        return false;
-    }
     let second = few.second;
-    !line_argument::is_reserved(lex_line::marked(content, second))
+    few.count == 2 && !line_argument::is_reserved(lex_line::marked(content, second))
 }
 
 // Whether a value word is above zero: it is not the word of zero, and its sign bit is not set.
 fn is_above_zero(word: u64) -> bool
-    ensures { result ≡ is_length (Value word) }
+    ensures { result ≡ is_length (Ok word) }
 {
-    if word == ZERO_WORD {
-        return false;
-    }
-    word % 2 == 0
+    word != ZERO_WORD && word % 2 == 0
 }
 
 // "Len=v name (v above zero)": zero, a negative number and a number out of its bounds are 14. A word that is no number
 // is 13, and not 14.
-fn is_length(n: Number) -> bool
+fn is_length(n: Result<u64, NumberError>) -> bool
     ensures { result ≡ is_length n }
 {
     match n {
-        Number::Value(word) => is_above_zero(word),
-        Number::Malformed => true,
-        Number::Range => false,
+        Ok(word) => is_above_zero(word),
+        Err(NumberError::Malformed) => true,
+        Err(NumberError::Range) => false,
     }
 }
 
@@ -156,11 +149,11 @@ fn amount_line(mult: bool, amount: &[u8], name: Span) -> PathParts
             line: PathLine {
                 says: SECTION,
                 right: true,
-                formed: times.formed,
+                formed: times.is_some(),
                 bounded: lex_number::is_whole_within(1, table_layout::bound::MULT, times),
             },
             name,
-            amount: times.value,
+            amount: times.unwrap_or(0),
             mult,
         };
     }
@@ -173,7 +166,7 @@ fn amount_line(mult: bool, amount: &[u8], name: Span) -> PathParts
             bounded: is_length(length),
         },
         name,
-        amount: lex_number::word_in(length),
+        amount: length.unwrap_or(0),
         mult,
     }
 }
@@ -236,20 +229,14 @@ fn section_line(content: &[u8]) -> PathParts
 fn stands_alone(says: u64) -> bool
     ensures { result ≡ either (eqb says says_fork) (eqb says says_endfork) }
 {
-    if says == FORK {
-        return true;
-    }
-    says == ENDFORK
+    says == FORK || says == ENDFORK
 }
 
 // Model_pinmap and Side have a name.
 fn takes_name(says: u64) -> bool
     ensures { result ≡ either (eqb says says_end) (eqb says says_side) }
 {
-    if says == END {
-        return true;
-    }
-    says == SIDE
+    says == END || says == SIDE
 }
 
 // A line with a name; it is right if the name is its only other word.
@@ -260,7 +247,7 @@ fn named_line(says: u64, content: &[u8], few: FirstTwo) -> PathParts
     let name = few.second;
     PathParts {
         line: PathLine {
-            says: says,
+            says,
             right: names_one(content, few),
             formed: true,
             bounded: true,
@@ -328,13 +315,11 @@ pub fn new_path() -> Path
 fn is_bad_fork(l: PathLine, p: Path) -> bool
     ensures { result ≡ is_bad_fork l p }
 {
-    if l.says == FORK {
-        return table_layout::bound::DEPTH <= p.depth;
+    match l.says {
+        FORK => table_layout::bound::DEPTH <= p.depth,
+        ENDFORK => p.depth == 0,
+        _ => false,
     }
-    if l.says == ENDFORK {
-        return p.depth == 0;
-    }
-    false
 }
 
 // "perhaps with `Side name` as the next line read"; "The first item is a Section"; "perhaps one end as last". An
@@ -342,28 +327,14 @@ fn is_bad_fork(l: PathLine, p: Path) -> bool
 fn is_out_of_order(l: PathLine, p: Path) -> bool
     ensures { result ≡ is_path_out_of_order l p }
 {
-    if l.says == SIDE {
-        return !p.side;
+    match l.says {
+        SIDE => !p.side,
+        SECTION => p.stage == STARTING || p.ended,
+        FORK => p.stage < ITEMS || p.ended,
+        END => p.stage == STARTED || p.ended,
+        ENDFORK => false,
+        _ => true,
     }
-    if l.says == SECTION {
-        if p.stage == STARTING {
-            return true;
-        }
-        return p.ended;
-    }
-    if l.says == FORK {
-        if p.stage < ITEMS {
-            return true;
-        }
-        return p.ended;
-    }
-    if l.says == END {
-        if p.stage == STARTED {
-            return true;
-        }
-        return p.ended;
-    }
-    l.says != ENDFORK
 }
 
 // Of the lines that a path takes, all but Side are steps.
@@ -422,9 +393,10 @@ pub fn path_rule(l: PathLine, p: Path, steps: u64) -> u64
     ensures { result ≡ path_rule l p steps }
 {
     if p.stage == CLOSED {
-        return closed_rule(l, p);
+        closed_rule(l, p)
+    } else {
+        open_rule(l, p, steps)
     }
-    open_rule(l, p, steps)
 }
 
 // The path after an end: its first end, its closing end, or the end of a fork block.
@@ -432,26 +404,26 @@ fn with_end(p: Path) -> Path
     ensures { result ≡ with_end p }
 {
     if p.stage == STARTING {
-        return Path {
+        Path {
             stage: STARTED,
             depth: p.depth,
             ended: false,
             side: true,
-        };
-    }
-    if p.depth == 0 {
-        return Path {
+        }
+    } else if p.depth == 0 {
+        Path {
             stage: CLOSED,
             depth: 0,
             ended: false,
             side: true,
-        };
-    }
-    Path {
-        stage: ITEMS,
-        depth: p.depth,
-        ended: true,
-        side: true,
+        }
+    } else {
+        Path {
+            stage: ITEMS,
+            depth: p.depth,
+            ended: true,
+            side: true,
+        }
     }
 }
 
@@ -460,38 +432,27 @@ pub fn path_next(l: PathLine, p: Path) -> Path
     requires { p.depth ≤ deepest }
     ensures { result ≡ path_next l p }
 {
-    if l.says == END {
-        return with_end(p);
-    }
-    if l.says == SECTION {
-        return Path {
+    match l.says {
+        END => with_end(p),
+        SECTION => Path {
             stage: ITEMS,
             depth: p.depth,
             ended: false,
             side: false,
-        };
-    }
-    if l.says == FORK {
-        return Path {
+        },
+        FORK => Path {
             stage: ITEMS,
             depth: p.depth + 1,
             ended: false,
             side: false,
-        };
-    }
-    if l.says == ENDFORK {
-        return Path {
+        },
+        ENDFORK => Path {
             stage: ITEMS,
-            depth: base::minus(p.depth, 1),
+            depth: p.depth.saturating_sub(1),
             ended: false,
             side: false,
-        };
-    }
-    Path {
-        stage: p.stage,
-        depth: p.depth,
-        ended: p.ended,
-        side: false,
+        },
+        _ => Path { side: false, ..p },
     }
 }
 

@@ -16,17 +16,13 @@ use lib.Ieee.Exact.{HasValue}
 use lib.Ieee.Positive.{num, den, den_pos, own_value, value_pos}
 use lib.Ieee.Scale.{finite, round_same}
 use borrow.Author.Tests.{le-leb, lt-leb, ltb-true, ltb-false}
+use Rattle.std.proofs.Common.{Option, Some, None}
 use Rattle.base.specs.If.{provided◌then◌else◌, both, either}
 use Rattle.base.specs.Bytes.{within}
 use Rattle.base.proofs.IfLaws.{if_true, if_false, by_cases, both_true, both_not_left, both_not_right, both_first}
 use Rattle.lex_number.specs.ValueWord.{zero_word, decimal_of, is_value_word}
 use Rattle.lex_number.proofs.WordLaws.{Written, word_says, decoded}
 use Rattle.out_double.specs.Double.{span, as_double, scaled, signed, double, is_drawn, drawn_of, paired}
-use Rattle.out_double.specs.declared.Drawn.{Drawn}
-use Rattle.out_double.specs.declared.Drawn.TheVariants.{Value, Outside}
-use Rattle.out_double.specs.declared.DrawnPair.{DrawnPair}
-use Rattle.out_double.specs.declared.DrawnPair.TheVariants.{Pair}
-use Rattle.out_double.specs.declared.DrawnPair.TheVariants as pairs
 use Rattle.out_double.proofs.DrawLaws.{spanned}
 use Rattle.out_double.proofs.ExactLaws.{ten_above, scaled_fits, scaled_above, rounded}
 use Rattle.out_double.proofs.SignLaws.{signed_round, signed_value, signed_fits}
@@ -40,7 +36,7 @@ denominator w = 10 ^ (64 - (decimal_of w).shifted)
 
 -- ---- what is drawn, and what is outside
 
-drawn_is : (w : ℕ) → is_drawn w ≡ true → drawn_of w ≡ Value (double (decimal_of w))
+drawn_is : (w : ℕ) → is_drawn w ≡ true → drawn_of w ≡ Some (double (decimal_of w))
 unfolding drawn_of
 drawn_is w e = if_true _ _ e
 
@@ -49,11 +45,11 @@ unfolding is_drawn within
 in_span w e low high = both_true _ _ e (both_true _ _ (le-leb _ _ low) (le-leb _ _ high))
 
 -- every value word "with k from -22 to 22" is drawn
-pub inside_span : (w : ℕ) → is_value_word w ≡ true → 64 - span ≤ (decimal_of w).shifted → (decimal_of w).shifted ≤ 64 + span → drawn_of w ≡ Value (double (decimal_of w))
+pub inside_span : (w : ℕ) → is_value_word w ≡ true → 64 - span ≤ (decimal_of w).shifted → (decimal_of w).shifted ≤ 64 + span → drawn_of w ≡ Some (double (decimal_of w))
 inside_span w e low high = drawn_is w (in_span w e low high)
 
 -- "Outside that span say so and give no number"
-pub outside_span : (w : ℕ) → ((decimal_of w).shifted < 64 - span) ⊎ (64 + span < (decimal_of w).shifted) → drawn_of w ≡ Outside
+pub outside_span : (w : ℕ) → ((decimal_of w).shifted < 64 - span) ⊎ (64 + span < (decimal_of w).shifted) → drawn_of w ≡ None
 unfolding drawn_of is_drawn within
 outside_span w h =
     if_false _ _
@@ -63,75 +59,72 @@ outside_span w h =
     (λ (k : 64 + span < (decimal_of w).shifted). both_not_right _ _ (lt-leb (decimal_of w).shifted (64 + span) k))
     h))
 
-pub outside_word : (w : ℕ) → is_value_word w ≡ false → drawn_of w ≡ Outside
+pub outside_word : (w : ℕ) → is_value_word w ≡ false → drawn_of w ≡ None
 unfolding drawn_of is_drawn
 outside_word w e = if_false _ _ (both_not_left _ _ e)
 
-abbrev IsPair : DrawnPair → Type 0
-IsPair (Pair x y) = Unit {0}
-IsPair pairs.Outside = ⊥
+-- the two parts of a pair that is drawn
+abbrev first_in : Option (Float × Float) → Option Float
+first_in None = None
+first_in (Some p) = Some p.0
 
-abbrev first_in : DrawnPair → Drawn
-first_in (Pair x y) = Value x
-first_in pairs.Outside = Outside
+abbrev second_in : Option (Float × Float) → Option Float
+second_in None = None
+second_in (Some p) = Some p.1
 
-abbrev second_in : DrawnPair → Drawn
-second_in (Pair x y) = Value y
-second_in pairs.Outside = Outside
-
-first_of : (p q : Drawn) (x y : Float) → paired p q ≡ Pair x y → p ≡ Value x
+first_of : (p q : Option Float) (x y : Float) → paired p q ≡ Some (x, y) → p ≡ Some x
 unfolding paired
-first_of (Value a) (Value b) x y e = ap first_in e
-first_of (Value a) Outside x y e = absurd (subst IsPair (sym e) tt)
-first_of Outside q x y e = absurd (subst IsPair (sym e) tt)
+first_of (Some a) (Some b) x y e = ap first_in e
+first_of (Some a) None x y e = cc
+first_of None q x y e = cc
 
-second_of_lem : (p q : Drawn) (x y : Float) → paired p q ≡ Pair x y → q ≡ Value y
+second_of_lem : (p q : Option Float) (x y : Float) → paired p q ≡ Some (x, y) → q ≡ Some y
 unfolding paired
-second_of_lem (Value a) (Value b) x y e = ap second_in e
-second_of_lem (Value a) Outside x y e = absurd (subst IsPair (sym e) tt)
-second_of_lem Outside q x y e = absurd (subst IsPair (sym e) tt)
+second_of_lem (Some a) (Some b) x y e = ap second_in e
+second_of_lem (Some a) None x y e = cc
+second_of_lem None q x y e = cc
 
 -- "drawing a pair of a frequency and a value answers outside if either is"
 module _ (frequency value : ℕ) where
-  pub pair_without_frequency : drawn_of frequency ≡ Outside → paired (drawn_of frequency) (drawn_of value) ≡ pairs.Outside
+  pub pair_without_frequency : drawn_of frequency ≡ None → paired (drawn_of frequency) (drawn_of value) ≡ None
   unfolding paired
   pair_without_frequency e = rw e
 
-  pub pair_without_value : drawn_of value ≡ Outside → paired (drawn_of frequency) (drawn_of value) ≡ pairs.Outside
+  pub pair_without_value : drawn_of value ≡ None → paired (drawn_of frequency) (drawn_of value) ≡ None
   unfolding paired
   pair_without_value e = ap (paired (drawn_of frequency)) e ∙ none (drawn_of frequency)
     where
-      none : (f : Drawn) → paired f Outside ≡ pairs.Outside
-      none (Value x) = refl
-      none Outside = refl
+      none : (f : Option Float) → paired f None ≡ None
+      none (Some x) = refl
+      none None = refl
 
-  pub pair_of_both : (x y : Float) → drawn_of frequency ≡ Value x → drawn_of value ≡ Value y → paired (drawn_of frequency) (drawn_of value) ≡ Pair x y
+  pub pair_of_both : (x y : Float) → drawn_of frequency ≡ Some x → drawn_of value ≡ Some y → paired (drawn_of frequency) (drawn_of value) ≡ Some (x, y)
   unfolding paired
   pair_of_both x y e f = rw (e, f)
 
 -- if a pair is drawn, so is each of the two
-module _ (frequency value : ℕ) (x y : Float) (e : paired (drawn_of frequency) (drawn_of value) ≡ Pair x y) where
-  pub pair_frequency : drawn_of frequency ≡ Value x
+module _ (frequency value : ℕ) (x y : Float) (e : paired (drawn_of frequency) (drawn_of value) ≡ Some (x, y)) where
+  pub pair_frequency : drawn_of frequency ≡ Some x
   pair_frequency = first_of (drawn_of frequency) (drawn_of value) x y e
 
-  pub pair_value : drawn_of value ≡ Value y
+  pub pair_value : drawn_of value ≡ Some y
   pair_value = second_of_lem (drawn_of frequency) (drawn_of value) x y e
 
 -- ---- what an answer says of its word
 
-abbrev value_in : Drawn → Float
-value_in (Value x) = x
-value_in Outside = nan
+abbrev value_in : Option Float → Float
+value_in (Some x) = x
+value_in None = nan
 
-abbrev IsValue : Drawn → Type 0
-IsValue (Value x) = Unit {0}
-IsValue Outside = ⊥
+abbrev IsValue : Option Float → Type 0
+IsValue (Some x) = Unit {0}
+IsValue None = ⊥
 
 record Drew (w : ℕ) (x : Float) : Type 0 where
   told : is_drawn w ≡ true
   value : x ≡ double (decimal_of w)
 
-drew : (w : ℕ) (x : Float) → drawn_of w ≡ Value x → Drew w x
+drew : (w : ℕ) (x : Float) → drawn_of w ≡ Some x → Drew w x
 unfolding drawn_of
 drew w x e =
     by_cases (Drew w x) (is_drawn w)
@@ -165,13 +158,13 @@ written_rounded w e k =
 rounded_is : (w : ℕ) → is_drawn w ≡ true → Rounded w
 rounded_is w e = ⊎_elim (λ (z : w ≡ zero_word). subst Rounded (sym z) zero_rounded) (written_rounded w e) (which w e)
 
-pub rounded_once : (w : ℕ) (x : Float) → drawn_of w ≡ Value x → x ≡ round binary64 (decimal_of w).negative (numerator w) (denominator w)
+pub rounded_once : (w : ℕ) (x : Float) → drawn_of w ≡ Some x → x ≡ round binary64 (decimal_of w).negative (numerator w) (denominator w)
 rounded_once w x e = let d = drew w x e in d.value ∙ rounded_is w d.told
 
 -- ---- zero, and the sign of any other number
 
 -- "zero is plus zero"
-pub zero_plus : drawn_of zero_word ≡ Value (fin false 0 (pos 0))
+pub zero_plus : drawn_of zero_word ≡ Some (fin false 0 (pos 0))
 unfolding drawn_of is_drawn is_value_word decimal_of within double scaled signed as_double both either provided◌then◌else◌ of_int mul
 zero_plus = refl
 
@@ -199,7 +192,7 @@ written_kept w x d k =
     }
 
 -- "A sign survives"
-pub sign_kept : (w : ℕ) (x : Float) → drawn_of w ≡ Value x → (w ≡ zero_word → ⊥) → IsNumber x (decimal_of w).negative
+pub sign_kept : (w : ℕ) (x : Float) → drawn_of w ≡ Some x → (w ≡ zero_word → ⊥) → IsNumber x (decimal_of w).negative
 sign_kept w x e n =
     let d = drew w x e in
     ⊎_elim (λ (z : w ≡ zero_word). absurd (n z)) (written_kept w x d) (which w d.told)
@@ -211,7 +204,7 @@ finite_of_value nan s a c h = absurd h
 finite_of_value (inf t) s a c h = absurd h
 finite_of_value (fin t m e) s a c h = tt
 
-pub drawn_finite : (w : ℕ) (x : Float) → drawn_of w ≡ Value x → T (finite x)
+pub drawn_finite : (w : ℕ) (x : Float) → drawn_of w ≡ Some x → T (finite x)
 drawn_finite w x e =
     let d = drew w x e in
     ⊎_elim
@@ -225,13 +218,13 @@ finite_number nan h = absurd h
 finite_number (inf s) h = absurd h
 finite_number (fin s m e) h = tt
 
-pub never_nan : (w : ℕ) (x : Float) → drawn_of w ≡ Value x → T (not (is_nan x))
+pub never_nan : (w : ℕ) (x : Float) → drawn_of w ≡ Some x → T (not (is_nan x))
 never_nan w x e = finite_number x (drawn_finite w x e)
 
 -- ---- the bits determine the double
 
 -- the bits read back as the same double, so no two doubles have the same bits
-pub bits_back : (w : ℕ) (x : Float) → drawn_of w ≡ Value x → of_bits binary64 (to_bits binary64 x) ≡ x
+pub bits_back : (w : ℕ) (x : Float) → drawn_of w ≡ Some x → of_bits binary64 (to_bits binary64 x) ≡ x
 unfolding double
 bits_back w x e =
     let y = scaled (decimal_of w).size (decimal_of w).shifted in
@@ -301,8 +294,8 @@ whole_span w n h =
 pub whole_drawn :
     (w n : ℕ) →
     IsWhole w n →
-    (drawn_of w ≡ Value (round binary64 (decimal_of w).negative n 1)) × HasValue (round binary64 (decimal_of w).negative n 1) (decimal_of w).negative n 1
+    (drawn_of w ≡ Some (round binary64 (decimal_of w).negative n 1)) × HasValue (round binary64 (decimal_of w).negative n 1) (decimal_of w).negative n 1
 whole_drawn w n h =
     let same = round_same binary64 (decimal_of w).negative (numerator w) (denominator w) n 1 (ten_above (64 - (decimal_of w).shifted)) (zero-lt-suc 0) (mul-one (numerator w) ∙ h.value) in
     let told = whole_span w n h in
-    (drawn_is w told ∙ ap Value (rounded_is w told ∙ same), round_whole binary64 (decimal_of w).negative n (le_of_lt h.below))
+    (drawn_is w told ∙ ap Some (rounded_is w told ∙ same), round_whole binary64 (decimal_of w).negative n (le_of_lt h.below))

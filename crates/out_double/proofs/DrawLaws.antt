@@ -1,25 +1,23 @@
 -- What has to be shown at each `return` of the code, given the results of its tests and calls.
 -- Assumes nothing.
 use mathlib.Core.Path.{◌≡◌, refl, sym, ◌∙◌}
-use mathlib.Core.Bool.{Bool, true, false, not}
+use mathlib.Core.Bool.{Bool, true, false}
 use mathlib.Core.Logic.{⊎_elim}
 use Prim.Native.Nat.{ℕ, ◌+◌, ◌-◌, ◌^◌, ◌≤◌, ◌<◌}
 use native.Mathlib.Nat.{le_trans}
 use lib.Dec.{T, leb, lit≤, le→leb}
 use lib.IntN.{pos}
 use lib.Ieee.{Float, binary64, of_int, in_float, mul, div, neg}
-use borrow.Author.Tests.{lt-ltb, le-ltb, le-leb, lt-leb, leb-true, not-true, not-false}
+use borrow.Author.Tests.{lt-ltb, le-ltb, le-leb, lt-leb, leb-true}
+use Rattle.std.proofs.Common.{Option, Some, None}
+use Rattle.std.specs.Option.{option_zip}
 use Rattle.base.specs.If.{both}
 use Rattle.base.specs.Bytes.{within}
-use Rattle.base.proofs.IfLaws.{if_true, if_false, both_first, both_second, both_rest, both_not_left, both_not_right}
+use Rattle.base.proofs.IfLaws.{if_true, if_false, both_first, both_second, both_rest, both_true, both_not_left, both_not_right}
 use Rattle.lex_number.specs.ValueWord.{zero_word, decimal_of, is_value_word}
 use Rattle.lex_number.specs.declared.Decimal.{Decimal}
 use Rattle.lex_number.proofs.WordLaws.{Written, word_says, decoded}
 use Rattle.out_double.specs.Double.{span, as_double, scaled, signed, double, is_drawn, drawn_of, paired}
-use Rattle.out_double.specs.declared.Drawn.{Drawn}
-use Rattle.out_double.specs.declared.Drawn.TheVariants.{Value, Outside}
-use Rattle.out_double.specs.declared.DrawnPair.TheVariants.{Pair}
-use Rattle.out_double.specs.declared.DrawnPair.TheVariants as pairs
 
 -- ---- the one operation
 
@@ -88,41 +86,46 @@ module _ (w : ℕ) (d : Decimal) (told : d ≡ decimal_of w) (drawn : is_drawn w
   pub not_too_high : d.shifted ≤ 64 + span
   not_too_high = rw told (spanned w drawn).high
 
--- by the tests of the code: a call's result, negated, and two comparisons
+-- by the tests of the code: a call's result, and the span
 module _ (w : ℕ) (b : Bool) (tested : b ≡ is_value_word w) where
-  pub no_word : not b ≡ true → false ≡ is_drawn w
+  pub no_word : b ≡ false → b ≡ is_drawn w
   unfolding is_drawn
-  no_word t = sym (both_not_left _ _ (sym tested ∙ not-true b t))
+  no_word t = t ∙ sym (both_not_left _ _ (sym tested ∙ t))
 
-  module _ (d : Decimal) (told : d ≡ decimal_of w) (word : not b ≡ false) where
+  module _ (d : Decimal) (told : d ≡ decimal_of w) (word : b ≡ true) where
+    pub span_is : within (64 - span) (64 + span) d.shifted ≡ is_drawn w
+    unfolding is_drawn
+    span_is = rw (← told) (sym (both_rest _ _ (sym tested ∙ word)))
+
+    pub in_span : 64 - span ≤ d.shifted → d.shifted ≤ 64 + span → true ≡ is_drawn w
+    unfolding within
+    in_span low high = sym (both_true _ _ (le-leb (64 - span) d.shifted low) (le-leb d.shifted (64 + span) high)) ∙ span_is
+
     pub too_low : d.shifted < 64 - span → false ≡ is_drawn w
-    unfolding is_drawn within
-    too_low h = rw (← told) (sym (both_not_right _ _ (both_not_left _ _ (lt-leb (64 - span) d.shifted h))))
+    unfolding within
+    too_low h = sym (both_not_left _ _ (lt-leb (64 - span) d.shifted h)) ∙ span_is
 
-    pub low_enough : 64 - span ≤ d.shifted → leb d.shifted (64 + span) ≡ is_drawn w
-    unfolding is_drawn within
-    low_enough h = rw (← told) (sym (both_rest _ _ (sym tested ∙ not-false b word) ∙ both_rest _ _ (le-leb (64 - span) d.shifted h)))
+    pub too_high : 64 + span < d.shifted → false ≡ is_drawn w
+    unfolding within
+    too_high h = sym (both_not_right _ _ (lt-leb d.shifted (64 + span) h)) ∙ span_is
 
 -- ---- the answers
 
 module _ (w : ℕ) (b : Bool) (tested : b ≡ is_drawn w) where
-  pub drawn : (x : Float) → b ≡ true → x ≡ double (decimal_of w) → Value x ≡ drawn_of w
+  pub drawn : (x : Float) → b ≡ true → x ≡ double (decimal_of w) → Some x ≡ drawn_of w
   unfolding drawn_of
   drawn x t e = rw e (sym (if_true _ _ (sym tested ∙ t)))
 
-  pub outside : b ≡ false → Outside ≡ drawn_of w
+  pub outside : b ≡ false → None ≡ drawn_of w
   unfolding drawn_of
   outside t = sym (if_false _ _ (sym tested ∙ t))
 
-module _ (f v p q : Drawn) (first : f ≡ p) (second : v ≡ q) where
-  pub pair : (x y : Float) → f ≡ Value x → v ≡ Value y → Pair x y ≡ paired p q
-  unfolding paired
-  pair x y a b = rw (← first, ← second, a, b)
-
-  pub apart_second : (x : Float) → f ≡ Value x → v ≡ Outside → pairs.Outside ≡ paired p q
-  unfolding paired
-  apart_second x a b = rw (← first, ← second, a, b)
-
-pub apart_first : (f p q : Drawn) → f ≡ p → f ≡ Outside → pairs.Outside ≡ paired p q
+-- the library's zip pairs two answers as the definition does
+pub zip_is : (p q : Option Float) → option_zip p q ≡ paired p q
 unfolding paired
-apart_first f p q a b = rw (← a, b)
+zip_is (Some x) (Some y) = refl
+zip_is (Some x) None = refl
+zip_is None q = refl
+
+pub zip_same : (f v p q : Option Float) → f ≡ p → v ≡ q → (made : Option (Float × Float)) → made ≡ option_zip f v → made ≡ paired p q
+zip_same f v p q a b made e = let z = zip_is f v in cc

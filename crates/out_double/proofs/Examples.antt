@@ -4,17 +4,16 @@ use mathlib.Core.Path.{◌≡◌, refl}
 use mathlib.Core.List.{List, [], ◌∷◌, map}
 use Prim.Native.Nat.{ℕ}
 use lib.Ieee.{binary64, round, of_int, to_bits, mul, div, neg}
+use Rattle.std.proofs.Common.{Float, Option, Some, None}
 use Rattle.base.specs.If.{both, either, provided◌then◌else◌}
 use Rattle.base.specs.Bytes.{within}
 use Rattle.lex_number.specs.ValueWord.{decimal_of, is_decimal, is_value_word}
 use Rattle.out_double.specs.Double.{as_double, scaled, signed, double, is_drawn, drawn_of}
-use Rattle.out_double.specs.declared.Drawn.{Drawn}
-use Rattle.out_double.specs.declared.Drawn.TheVariants.{Value, Outside}
 
--- the bits of a double; none for Outside
-abbrev bits : Drawn → List ℕ
-bits (Value x) = to_bits binary64 x ∷ []
-bits Outside = []
+-- the bits of a double; none where nothing is drawn
+abbrev bits : Option Float → List ℕ
+bits (Some x) = to_bits binary64 x ∷ []
+bits None = []
 
 -- 0e0, 45e-10, -45e-10, 1e22, 1e-22, 999999999999999e0, 999999999999999e22, -999999999999999e-22, 5e15, 9e15
 drawn :
@@ -36,6 +35,6 @@ drawn = refl
 -- 1e23 and 1e-23, a zero with a sign, zeros and a one with k -64, 10e0, an m of 16 digits, the greatest word
 outside :
     map drawn_of (430 ∷ 338 ∷ 129 ∷ 0 ∷ 1 ∷ 256 ∷ 2688 ∷ 2305843009213694080 ∷ 18446744073709551615 ∷ [])
-    ≡ Outside ∷ Outside ∷ Outside ∷ Outside ∷ Outside ∷ Outside ∷ Outside ∷ Outside ∷ Outside ∷ []
+    ≡ None ∷ None ∷ None ∷ None ∷ None ∷ None ∷ None ∷ None ∷ None ∷ []
 unfolding drawn_of is_drawn is_value_word is_decimal decimal_of within both either provided◌then◌else◌
 outside = refl

@@ -1,17 +1,12 @@
 -- Request 11, "Curves in the browser": the double of a value word, and the doubles of a pair of a frequency and a value.
 -- Assumes nothing.
-use Rattle.std.specs.Prelude.{ℕ, ◌+◌, ◌-◌, ◌^◌, Bool, ltb, pos, Float}
+use Rattle.std.specs.Prelude.{ℕ, ◌+◌, ◌-◌, ◌^◌, Bool, ltb, pos, Float, Option, Some, None}
 use Rattle.std.specs.Float.{binary64}
 use Rattle.std.specs.Float.Ieee.{of_int, mul, div, neg}
 use Rattle.base.specs.If.{provided◌then◌else◌, both}
 use Rattle.base.specs.Bytes.{within}
 use Rattle.lex_number.specs.ValueWord.{decimal_of, is_value_word}
 use Rattle.lex_number.specs.declared.Decimal.{Decimal}
-use Rattle.out_double.specs.declared.Drawn.{Drawn}
-use Rattle.out_double.specs.declared.Drawn.TheVariants.{Value, Outside}
-use Rattle.out_double.specs.declared.DrawnPair.{DrawnPair}
-use Rattle.out_double.specs.declared.DrawnPair.TheVariants.{Pair}
-use Rattle.out_double.specs.declared.DrawnPair.TheVariants as pairs
 
 -- "k from -22 to 22"
 abbrev pub span : ℕ
@@ -41,12 +36,12 @@ double d = signed d.negative (scaled d.size d.shifted)
 unfoldable pub is_drawn : ℕ → Bool
 is_drawn word = both (is_value_word word) (within (64 - span) (64 + span) (decimal_of word).shifted)
 
--- "either a drawn value or "outside""
-unfoldable pub drawn_of : ℕ → Drawn
-drawn_of word = provided is_drawn word then Value (double (decimal_of word)) else Outside
+-- "either a drawn value or "outside"": Some of the double, or None
+unfoldable pub drawn_of : ℕ → Option Float
+drawn_of word = provided is_drawn word then Some (double (decimal_of word)) else None
 
 -- "drawing a pair of a frequency and a value answers outside if either is"
-unfoldable pub paired : Drawn → Drawn → DrawnPair
-paired (Value x) (Value y) = Pair x y
-paired (Value x) Outside = pairs.Outside
-paired Outside v = pairs.Outside
+unfoldable pub paired : Option Float → Option Float → Option (Float × Float)
+paired (Some x) (Some y) = Some (x, y)
+paired (Some x) None = None
+paired None v = None

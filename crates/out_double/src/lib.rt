@@ -17,18 +17,6 @@ const TENS: [f64; 23] = [
     1e17, 1e18, 1e19, 1e20, 1e21, 1e22,
 ];
 
-#[derive(Clone, Copy)]
-pub enum Drawn {
-    Value(f64),
-    Outside,
-}
-
-#[derive(Clone, Copy)]
-pub enum DrawnPair {
-    Pair(f64, f64),
-    Outside,
-}
-
 fn power(k: u64) -> f64
     requires { k ≤ span }
     ensures { result ≡ as_double (10 ^ k) }
@@ -38,30 +26,25 @@ fn power(k: u64) -> f64
 
 // m times ten to the k, where `shifted` is k + 64. Both numbers are exact, so that only the operation rounds.
 fn scaled(size: u64, shifted: u64) -> f64
-    requires fact_1 { size ≤ 2 ^ 53 }
-    requires fact_2 { 64 - span ≤ shifted }
-    requires fact_3 { shifted ≤ 64 + span }
+    requires exact_size { size ≤ 2 ^ 53 }
+    requires not_too_low { 64 - span ≤ shifted }
+    requires not_too_high { shifted ≤ 64 + span }
     ensures { result ≡ scaled size shifted }
 {
     let exact = size as f64;
     if shifted < 64 {
-        return exact / power(64 - shifted);
+        exact / power(64 - shifted)
+    } else {
+        exact * power(shifted - 64)
     }
-    exact * power(shifted - 64)
 }
 
 // Whether a word is a value word with k from -22 to 22.
+#[tactic(auto, using(crate::proofs::DrawLaws::in_span, crate::proofs::DrawLaws::too_low, crate::proofs::DrawLaws::too_high, crate::proofs::DrawLaws::no_word))]
 fn is_drawn(word: u64) -> bool
     ensures { result ≡ is_drawn word }
 {
-    if !lex_number::is_value_word(word) {
-        return false;
-    }
-    let shifted = lex_number::decimal_of(word).shifted;
-    if shifted < LEAST {
-        return false;
-    }
-    shifted <= MOST
+    lex_number::is_value_word(word) && matches!(lex_number::decimal_of(word).shifted, LEAST..=MOST)
 }
 
 // The operation on m and k, and then the sign.
@@ -71,33 +54,23 @@ fn double(word: u64) -> f64
 {
     let parts = lex_number::decimal_of(word);
     let size = scaled(parts.size, parts.shifted);
-    if parts.negative {
-        return -size;
-    }
-    size
+    if parts.negative { -size } else { size }
 }
 
-// The double of a word, or Outside.
-pub fn double_of(word: u64) -> Drawn
+// The double of a word; None if it is outside.
+pub fn double_of(word: u64) -> Option<f64>
     ensures { result ≡ drawn_of word }
 {
     if is_drawn(word) {
-        return Drawn::Value(double(word));
+        Some(double(word))
+    } else {
+        None
     }
-    Drawn::Outside
 }
 
-// The doubles of a frequency and a value; outside if either is.
-pub fn pair_of(frequency: u64, value: u64) -> DrawnPair
+// The doubles of a frequency and a value; None if either is outside.
+pub fn pair_of(frequency: u64, value: u64) -> Option<(f64, f64)>
     ensures { result ≡ paired (drawn_of frequency) (drawn_of value) }
 {
-    let first = double_of(frequency);
-    let second = double_of(value);
-    match first {
-        Drawn::Value(x) => match second {
-            Drawn::Value(y) => DrawnPair::Pair(x, y),
-            Drawn::Outside => DrawnPair::Outside,
-        },
-        Drawn::Outside => DrawnPair::Outside,
-    }
+    double_of(frequency).zip(double_of(value))
 }

@@ -16,9 +16,6 @@ use Rattle.out_listing.specs.Shown.{kind_in, owner_from, owner_of}
 
 -- a word that is the index of a matrix plus 1
 module _ (word matrix : ℕ) where
-  pub matrix_none : word ≡ 0 → false ≡ eqb word (matrix + 1)
-  matrix_none e = sym (ne_eqb word (matrix + 1) (λ (k : word ≡ matrix + 1). omega arith))
-
   pub matrix_is : (word ≡ 0 → ⊥) → eqb (word - 1) matrix ≡ eqb word (matrix + 1)
   matrix_is f =
       by_cases _ (eqb (word - 1) matrix)
@@ -37,11 +34,12 @@ module _ (r : Records) (matrix count i : ℕ) where
   owner_starts e = ap (λ (n : ℕ). owner_from r matrix n 0) (sub-zero count ∙ e)
 
   module _ (left : owner_from r matrix (count - i) i ≡ owner_of r matrix) where
-    pub owner_none : count ≤ i → i ≡ owner_of r matrix
+    pub owner_none : count ≤ i → i ≤ count → count ≡ owner_of r matrix
     unfolding owner_from
-    owner_none h =
+    owner_none h k =
         let e : 0 ≡ count - i = omega arith in
-        ap (λ (n : ℕ). owner_from r matrix n i) e ∙ left
+        let f : count ≡ i = omega arith in
+        f ∙ ap (λ (n : ℕ). owner_from r matrix n i) e ∙ left
 
     module _ (h : i < count) (s : SectionRecord) (here : s ≡ get_or r.sections i no_section) (kind : ℕ) (told : kind ≡ kind_in matrix s) where
       next : owner_from r matrix (suc (count - (i + 1))) i ≡ owner_of r matrix

@@ -38,9 +38,9 @@ module _ (a b : List ℕ) (at next : ℕ) (test : Bool) (x y : List ℕ) where
   pub text_no : (after : ℕ) → No test → Written a b at next (y ++ (after ∷ [])) → Written a b at next ((provided test then x else y) ++ (after ∷ []))
   text_no after h w = written_is (ap (λ (l : List ℕ). l ++ (after ∷ [])) (sym (if_false x y h.fails))) w
 
-pub name_told : (t a b : List ℕ) (at next after start size : ℕ) (name : List ℕ) → Written a b at next (name ++ (after ∷ [])) → name ≡ name_at t start size →
-    Written a b at next (name_at t start size ++ (after ∷ []))
-name_told t a b at next after start size name w told = written_is (ap (λ (l : List ℕ). l ++ (after ∷ [])) told) w
+-- a field whose bytes are known to be a text
+pub field_told : {a b : List ℕ} {at next : ℕ} (after : ℕ) {field text : List ℕ} → field ≡ text → Written a b at next (field ++ (after ∷ [])) → Written a b at next (text ++ (after ∷ []))
+field_told after told w = written_is (ap (λ (l : List ℕ). l ++ (after ∷ [])) told) w
 
 -- ---- lines
 

@@ -1,2 +1,3 @@
 pub mod Shown
 pub mod Listing
+pub mod Way

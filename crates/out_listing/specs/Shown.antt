@@ -1,7 +1,7 @@
 -- A table as the listing reads it: the records that it shows, and the section and kind of each matrix. No word of the table
 -- is trusted: a table whose counts do not fit shows no record, and a record that does not exist reads as zeros.
 -- Assumes nothing.
-use Rattle.std.specs.Prelude.{ℕ, zero, suc, ◌+◌, ◌-◌, min, List, length, get_or, ltb, eqb}
+use Rattle.std.specs.Prelude.{ℕ, zero, suc, ◌+◌, ◌-◌, min, List, length, get_or, is_some, ltb, eqb}
 use Rattle.base.specs.If.{provided◌then◌else◌}
 use Rattle.table_layout.specs.Codes.{resistance_kind, inductance_kind, conductance_kind, capacitance_kind, matrix_kinds}
 use Rattle.table_layout.specs.View.{view_of}
@@ -10,7 +10,7 @@ use Rattle.table_record.specs.declared.MatrixRecord.{MatrixRecord}
 use Rattle.table_record.specs.Records.{Records, records_of, no_records, no_section}
 
 unfoldable pub shown : List ℕ → Records
-shown table = provided (view_of table).fits then records_of table else no_records
+shown table = provided is_some (view_of table) then records_of table else no_records
 
 -- the kind of matrix j in a section; `matrix_kinds` if the section does not have it. "R L G C each matrix index plus 1 or 0"
 unfoldable pub kind_in : ℕ → SectionRecord → ℕ

@@ -3,83 +3,36 @@
 #![tactic(auto)]
 
 ghost use Rattle.std.specs.Prelude.{◌≡◌, ◌∷◌, [], ◌++◌, ◌+◌, eqb, get_or};
-ghost use Rattle.table_layout.specs.View.{view_of};
-ghost use Rattle.table_record.specs.Records.{no_model, no_step, no_map, no_section, no_matrix, no_value};
 ghost use Rattle.table_name.specs.Name.{name_at};
 ghost use Rattle.out_text.specs.Printing.{line_of, decimal};
 ghost use Rattle.out_text.specs.Written.{Written};
 ghost use Rattle.out_listing.specs.Shown.{shown, kind_in, owner_of, values_in};
+ghost use Rattle.out_listing.specs.Way.View.{shown_view};
 ghost use Rattle.out_listing.specs.Listing.{type_text, method_text, kind_text, listed_from, listed_model, listed_end, amount_text, listed_section_step, listed_step, listed_map, listed_section, listed_value, listed_record, part_text, matrix_text, values_text, all_parts_text, listing, refusal_text};
 
 use table_layout::View;
-use table_record::{MapRecord, MatrixRecord, ModelRecord, SectionRecord, StepRecord, Value};
+use table_record::{
+    MapRecord, MatrixRecord, ModelRecord, Record, SectionRecord, StepRecord, Value,
+};
 
-// ---- records of any table, by their index
+// The view of a table that does not fit: it has no record of any part.
+const NO_VIEW: View = View {
+    bases: [0; table_layout::PARTS],
+    counts: [0; table_layout::PARTS],
+    end: 0,
+};
 
-fn model_of(table: &[u64], view: View, index: u64) -> ModelRecord
-    requires { view ≡ view_of table.now }
-    ensures { result ≡ get_or (shown table.now).models index no_model }
+// ---- a record of any table, by its index
+
+// The record of an index. One that does not exist reads as zeros.
+fn record_of<R: Record>(table: &[u64], view: View, index: u64) -> R
+    requires { view ≡ shown_view table.now }
+    ensures { result ≡ get_or (R.kind (shown table.now)) index R.none }
 {
-    let counts = view.counts;
-    if counts[table_layout::MODELS] <= index {
-        return table_record::no_model();
+    if view.counts[R::PART] <= index {
+        return R::default();
     }
-    table_record::nth_model(table, view, index)
-}
-
-fn step_of(table: &[u64], view: View, index: u64) -> StepRecord
-    requires { view ≡ view_of table.now }
-    ensures { result ≡ get_or (shown table.now).steps index no_step }
-{
-    let counts = view.counts;
-    if counts[table_layout::STEPS] <= index {
-        return table_record::no_step();
-    }
-    table_record::nth_step(table, view, index)
-}
-
-fn map_of(table: &[u64], view: View, index: u64) -> MapRecord
-    requires { view ≡ view_of table.now }
-    ensures { result ≡ get_or (shown table.now).maps index no_map }
-{
-    let counts = view.counts;
-    if counts[table_layout::MAPS] <= index {
-        return table_record::no_map();
-    }
-    table_record::nth_map(table, view, index)
-}
-
-fn section_of(table: &[u64], view: View, index: u64) -> SectionRecord
-    requires { view ≡ view_of table.now }
-    ensures { result ≡ get_or (shown table.now).sections index no_section }
-{
-    let counts = view.counts;
-    if counts[table_layout::SECTIONS] <= index {
-        return table_record::no_section();
-    }
-    table_record::nth_section(table, view, index)
-}
-
-fn matrix_of(table: &[u64], view: View, index: u64) -> MatrixRecord
-    requires { view ≡ view_of table.now }
-    ensures { result ≡ get_or (shown table.now).matrices index no_matrix }
-{
-    let counts = view.counts;
-    if counts[table_layout::MATRICES] <= index {
-        return table_record::no_matrix();
-    }
-    table_record::nth_matrix(table, view, index)
-}
-
-fn value_of(table: &[u64], view: View, index: u64) -> Value
-    requires { view ≡ view_of table.now }
-    ensures { result ≡ get_or (shown table.now).values index no_value }
-{
-    let counts = view.counts;
-    if counts[table_layout::VALUES] <= index {
-        return table_record::no_value();
-    }
-    table_record::nth_value(table, view, index)
+    table_record::nth(table, view, index)
 }
 
 // ---- fields
@@ -90,49 +43,40 @@ fn put_name(out: &mut [u8], at: usize, text: &[u8], start: u64, size: u64, after
     out_text::put_field(out, at, table_name::name_at(text, start, size), after)
 }
 
-fn put_type(out: &mut [u8], at: usize, number: u64, after: u8) -> usize
-    ensures { Written out.old out.new at result (type_text number ++ (after ∷ [])) }
+// The word for a model's type; nothing for another number.
+fn type_word(number: u64) -> &'static [u8]
+    ensures { result.now ≡ type_text number }
 {
-    if number == table_layout::code::SLM_GENERAL {
-        return out_text::put_field(out, at, b"SLM_general", after);
+    match number {
+        table_layout::code::SLM_GENERAL => b"SLM_general",
+        table_layout::code::SLM_QUIESCENT => b"SLM_quiescent",
+        table_layout::code::MLM => b"MLM",
+        _ => b"",
     }
-    if number == table_layout::code::SLM_QUIESCENT {
-        return out_text::put_field(out, at, b"SLM_quiescent", after);
-    }
-    if number == table_layout::code::MLM {
-        return out_text::put_field(out, at, b"MLM", after);
-    }
-    out_text::put_byte(out, at, after)
 }
 
-fn put_method(out: &mut [u8], at: usize, number: u64, after: u8) -> usize
-    ensures { Written out.old out.new at result (method_text number ++ (after ∷ [])) }
+// The word for a section's method; nothing for another number.
+fn method_word(number: u64) -> &'static [u8]
+    ensures { result.now ≡ method_text number }
 {
-    if number == table_layout::code::LUMPED {
-        return out_text::put_field(out, at, b"Lumped", after);
+    match number {
+        table_layout::code::LUMPED => b"Lumped",
+        table_layout::code::DISTRIBUTED => b"Distributed",
+        _ => b"",
     }
-    if number == table_layout::code::DISTRIBUTED {
-        return out_text::put_field(out, at, b"Distributed", after);
-    }
-    out_text::put_byte(out, at, after)
 }
 
-fn put_kind(out: &mut [u8], at: usize, kind: u64, after: u8) -> usize
-    ensures { Written out.old out.new at result (kind_text kind ++ (after ∷ [])) }
+// The letter for a kind of matrix; nothing for another number.
+fn kind_word(kind: u64) -> &'static [u8]
+    ensures { result.now ≡ kind_text kind }
 {
-    if kind == table_layout::code::RESISTANCE {
-        return out_text::put_field(out, at, b"R", after);
+    match kind {
+        table_layout::code::RESISTANCE => b"R",
+        table_layout::code::INDUCTANCE => b"L",
+        table_layout::code::CONDUCTANCE => b"G",
+        table_layout::code::CAPACITANCE => b"C",
+        _ => b"",
     }
-    if kind == table_layout::code::INDUCTANCE {
-        return out_text::put_field(out, at, b"L", after);
-    }
-    if kind == table_layout::code::CONDUCTANCE {
-        return out_text::put_field(out, at, b"G", after);
-    }
-    if kind == table_layout::code::CAPACITANCE {
-        return out_text::put_field(out, at, b"C", after);
-    }
-    out_text::put_byte(out, at, after)
 }
 
 // A line of a word and a number.
@@ -147,7 +91,7 @@ fn model_line(out: &mut [u8], at: usize, text: &[u8], model: ModelRecord) -> usi
     ensures { Written out.old out.new at result (listed_model text.now model) }
 {
     let second = put_name(out, at, text, model.start, model.size, b' ');
-    let third = put_type(out, second, model.kind, b' ');
+    let third = out_text::put_field(out, second, type_word(model.kind), b' ');
     out_text::put_decimal(out, third, model.steps, b'\n')
 }
 
@@ -162,7 +106,7 @@ fn section_line(out: &mut [u8], at: usize, text: &[u8], section: SectionRecord) 
     ensures { Written out.old out.new at result (listed_section text.now section) }
 {
     let second = put_name(out, at, text, section.start, section.size, b' ');
-    let third = put_method(out, second, section.method, b' ');
+    let third = out_text::put_field(out, second, method_word(section.method), b' ');
     out_text::put_decimal(out, third, section.conductors, b'\n')
 }
 
@@ -176,17 +120,18 @@ fn end_line(
     view: View,
     step: StepRecord,
 ) -> usize
-    requires { view ≡ view_of table.now }
+    requires { view ≡ shown_view table.now }
     ensures { Written out.old out.new at result (listed_end text.now (shown table.now) step) }
 {
-    let map = map_of(table, view, step.target);
+    let map = record_of::<MapRecord>(table, view, step.target);
     let second = out_text::put_field(out, at, b"end", b' ');
     let third = out_text::put_decimal(out, second, step.line, b' ');
     if step.side_size == 0 {
-        return put_name(out, third, text, map.start, map.size, b'\n');
+        put_name(out, third, text, map.start, map.size, b'\n')
+    } else {
+        let fourth = put_name(out, third, text, map.start, map.size, b' ');
+        put_name(out, fourth, text, step.side, step.side_size, b'\n')
     }
-    let fourth = put_name(out, third, text, map.start, map.size, b' ');
-    put_name(out, fourth, text, step.side, step.side_size, b'\n')
 }
 
 // Prints the amount of a step over this section: a Mult if the section is Lumped, else a Len.
@@ -194,9 +139,10 @@ fn put_amount(out: &mut [u8], at: usize, method: u64, amount: u64) -> usize
     ensures { Written out.old out.new at result (amount_text method amount ++ (10 ∷ [])) }
 {
     if method == table_layout::code::LUMPED {
-        return out_text::put_decimal(out, at, amount, b'\n');
+        out_text::put_decimal(out, at, amount, b'\n')
+    } else {
+        out_text::put_value(out, at, amount, b'\n')
     }
-    out_text::put_value(out, at, amount, b'\n')
 }
 
 fn section_step_line(
@@ -207,10 +153,10 @@ fn section_step_line(
     view: View,
     step: StepRecord,
 ) -> usize
-    requires { view ≡ view_of table.now }
+    requires { view ≡ shown_view table.now }
     ensures { Written out.old out.new at result (listed_section_step text.now (shown table.now) step) }
 {
-    let section = section_of(table, view, step.target);
+    let section = record_of::<SectionRecord>(table, view, step.target);
     let second = out_text::put_field(out, at, b"section", b' ');
     let third = out_text::put_decimal(out, second, step.line, b' ');
     let fourth = put_name(out, third, text, section.start, section.size, b' ');
@@ -225,19 +171,15 @@ fn step_line(
     view: View,
     step: StepRecord,
 ) -> usize
-    requires { view ≡ view_of table.now }
+    requires { view ≡ shown_view table.now }
     ensures { Written out.old out.new at result (listed_step text.now (shown table.now) step) }
 {
-    if step.kind == table_layout::code::END {
-        return end_line(out, at, text, table, view, step);
+    match step.kind {
+        table_layout::code::END => end_line(out, at, text, table, view, step),
+        table_layout::code::SECTION => section_step_line(out, at, text, table, view, step),
+        table_layout::code::FORK => head_line(out, at, b"fork", step.line),
+        _ => head_line(out, at, b"endfork", step.line),
     }
-    if step.kind == table_layout::code::SECTION {
-        return section_step_line(out, at, text, table, view, step);
-    }
-    if step.kind == table_layout::code::FORK {
-        return head_line(out, at, b"fork", step.line);
-    }
-    head_line(out, at, b"endfork", step.line)
 }
 
 // ---- parts
@@ -252,21 +194,35 @@ fn record_line(
     part: usize,
     index: u64,
 ) -> usize
-    requires { view ≡ view_of table.now }
+    requires { view ≡ shown_view table.now }
     ensures { Written out.old out.new at result (listed_record text.now (shown table.now) part index) }
 {
-    if part == table_layout::MODELS {
-        return model_line(out, at, text, model_of(table, view, index));
+    match part {
+        table_layout::MODELS => model_line(
+            out,
+            at,
+            text,
+            record_of::<ModelRecord>(table, view, index),
+        ),
+        table_layout::STEPS => step_line(
+            out,
+            at,
+            text,
+            table,
+            view,
+            record_of::<StepRecord>(table, view, index),
+        ),
+        table_layout::MAPS => map_line(out, at, text, record_of::<MapRecord>(table, view, index)),
+        _ => section_line(
+            out,
+            at,
+            text,
+            record_of::<SectionRecord>(table, view, index),
+        ),
     }
-    if part == table_layout::STEPS {
-        return step_line(out, at, text, table, view, step_of(table, view, index));
-    }
-    if part == table_layout::MAPS {
-        return map_line(out, at, text, map_of(table, view, index));
-    }
-    section_line(out, at, text, section_of(table, view, index))
 }
 
+// This loop and the two below differ in the line: a trait with a type for each kind of line is longer than the three.
 fn part_lines(
     out: &mut [u8],
     at: usize,
@@ -276,16 +232,12 @@ fn part_lines(
     part: usize,
     count: u64,
 ) -> usize
-    requires { view ≡ view_of table.now }
+    requires { view ≡ shown_view table.now }
     ensures { Written out.old out.new at result (listed_from (listed_record text.now (shown table.now) part) count 0) }
 {
-    let mut next = out_text::lesser(at, out.len());
-    let mut i = 0;
-    let mut left = count;
-    while 0 < left {
+    let mut next = at.min(out.len());
+    for i in 0..count {
         next = record_line(out, next, text, table, view, part, i);
-        i += 1;
-        left -= 1;
     }
     next
 }
@@ -301,7 +253,7 @@ fn put_part(
     part: usize,
     count: u64,
 ) -> usize
-    requires { view ≡ view_of table.now }
+    requires { view ≡ shown_view table.now }
     ensures { Written out.old out.new at result (part_text text.now (shown table.now) name.now part count) }
 {
     let lines = head_line(out, at, name, count);
@@ -310,7 +262,7 @@ fn put_part(
 
 // Models, steps, maps and sections.
 fn put_parts(out: &mut [u8], at: usize, text: &[u8], table: &[u64], view: View) -> usize
-    requires { view ≡ view_of table.now }
+    requires { view ≡ shown_view table.now }
     ensures { Written out.old out.new at result (all_parts_text text.now (shown table.now)) }
 {
     let counts = view.counts;
@@ -362,10 +314,7 @@ fn put_parts(out: &mut [u8], at: usize, text: &[u8], table: &[u64], view: View) 
 fn has_matrix(word: u64, matrix: u64) -> bool
     ensures { result ≡ eqb word (matrix + 1) }
 {
-    if word == 0 {
-        return false;
-    }
-    word - 1 == matrix
+    word != 0 && word - 1 == matrix
 }
 
 // The kind of a matrix in a section: R, L, G, C, or none of them if the section does not have it.
@@ -373,48 +322,43 @@ fn kind_in(section: SectionRecord, matrix: u64) -> u64
     ensures { result ≡ kind_in matrix section }
 {
     if has_matrix(section.resistance, matrix) {
-        return table_layout::code::RESISTANCE;
+        table_layout::code::RESISTANCE
+    } else if has_matrix(section.inductance, matrix) {
+        table_layout::code::INDUCTANCE
+    } else if has_matrix(section.conductance, matrix) {
+        table_layout::code::CONDUCTANCE
+    } else if has_matrix(section.capacitance, matrix) {
+        table_layout::code::CAPACITANCE
+    } else {
+        table_layout::code::MATRIX_KINDS
     }
-    if has_matrix(section.inductance, matrix) {
-        return table_layout::code::INDUCTANCE;
-    }
-    if has_matrix(section.conductance, matrix) {
-        return table_layout::code::CONDUCTANCE;
-    }
-    if has_matrix(section.capacitance, matrix) {
-        return table_layout::code::CAPACITANCE;
-    }
-    table_layout::code::MATRIX_KINDS
 }
 
 // The first section that has a matrix; the number of sections if none has.
 fn owner_of(table: &[u64], view: View, matrix: u64) -> u64
-    requires { view ≡ view_of table.now }
+    requires { view ≡ shown_view table.now }
     ensures { result ≡ owner_of (shown table.now) matrix }
 {
     let counts = view.counts;
     let count = counts[table_layout::SECTIONS];
-    let mut i = 0;
-    while i < count {
-        let kind = kind_in(section_of(table, view, i), matrix);
+    for i in 0..count {
+        let kind = kind_in(record_of::<SectionRecord>(table, view, i), matrix);
         if kind < table_layout::code::MATRIX_KINDS {
             return i;
         }
-        i += 1;
     }
-    i
+    count
 }
 
 // How many values a matrix has inside the table.
 fn values_in(table: &[u64], view: View, matrix: MatrixRecord) -> u64
-    requires { view ≡ view_of table.now }
+    requires { view ≡ shown_view table.now }
     ensures { result ≡ values_in (shown table.now) matrix }
 {
     let counts = view.counts;
-    base::lesser(
-        matrix.values,
-        base::minus(counts[table_layout::VALUES], matrix.first),
-    )
+    matrix
+        .values
+        .min(counts[table_layout::VALUES].saturating_sub(matrix.first))
 }
 
 fn value_line(
@@ -428,7 +372,7 @@ fn value_line(
     ensures { Written out.old out.new at result (listed_value text.now section kind value) }
 {
     let second = put_name(out, at, text, section.start, section.size, b' ');
-    let third = put_kind(out, second, kind, b' ');
+    let third = out_text::put_field(out, second, kind_word(kind), b' ');
     let fourth = out_text::put_decimal(out, third, value.row, b' ');
     let fifth = out_text::put_decimal(out, fourth, value.column, b' ');
     out_text::put_value(out, fifth, value.word, b'\n')
@@ -442,19 +386,23 @@ fn matrix_lines(
     view: View,
     index: u64,
 ) -> usize
-    requires { view ≡ view_of table.now }
+    requires { view ≡ shown_view table.now }
     ensures { Written out.old out.new at result (matrix_text text.now (shown table.now) index) }
 {
-    let section = section_of(table, view, owner_of(table, view, index));
+    let section = record_of::<SectionRecord>(table, view, owner_of(table, view, index));
     let kind = kind_in(section, index);
-    let matrix = matrix_of(table, view, index);
-    let mut value = matrix.first;
-    let mut left = values_in(table, view, matrix);
-    let mut next = out_text::lesser(at, out.len());
-    while 0 < left {
-        next = value_line(out, next, text, section, kind, value_of(table, view, value));
-        value += 1;
-        left -= 1;
+    let matrix = record_of::<MatrixRecord>(table, view, index);
+    let end = matrix.first + values_in(table, view, matrix);
+    let mut next = at.min(out.len());
+    for i in matrix.first..end {
+        next = value_line(
+            out,
+            next,
+            text,
+            section,
+            kind,
+            record_of::<Value>(table, view, i),
+        );
     }
     next
 }
@@ -467,23 +415,19 @@ fn all_matrix_lines(
     view: View,
     count: u64,
 ) -> usize
-    requires { view ≡ view_of table.now }
+    requires { view ≡ shown_view table.now }
     ensures { Written out.old out.new at result (listed_from (matrix_text text.now (shown table.now)) count 0) }
 {
-    let mut next = out_text::lesser(at, out.len());
-    let mut i = 0;
-    let mut left = count;
-    while 0 < left {
+    let mut next = at.min(out.len());
+    for i in 0..count {
         next = matrix_lines(out, next, text, table, view, i);
-        i += 1;
-        left -= 1;
     }
     next
 }
 
 // The number of values, then the values of all matrices.
 fn put_values(out: &mut [u8], at: usize, text: &[u8], table: &[u64], view: View) -> usize
-    requires { view ≡ view_of table.now }
+    requires { view ≡ shown_view table.now }
     ensures { Written out.old out.new at result (values_text text.now (shown table.now)) }
 {
     let counts = view.counts;
@@ -504,7 +448,7 @@ fn put_values(out: &mut [u8], at: usize, text: &[u8], table: &[u64], view: View)
 pub fn write_listing(text: &[u8], table: &[u64], words: usize, out: &mut [u8]) -> usize
     ensures { Written out.old out.new 0 result (listing text.now table.now words) }
 {
-    let view = table_layout::view_of(table);
+    let view = table_layout::view_of(table).unwrap_or(NO_VIEW);
     let parts = head_line(out, 0, b"accepted", words as u64);
     let values = put_parts(out, parts, text, table, view);
     put_values(out, values, text, table, view)

@@ -9,8 +9,6 @@ use lib.Seq.{drop-cons, take_all, get_or-set_same, drop-set-lt}
 use borrow.Author.Tests.{lt-ltb, le-ltb}
 use Rattle.base.proofs.IfLaws.{if_true, if_false}
 use Rattle.out_text.specs.Printing.{last_digit, digits_before, decimal}
-use Rattle.out_text.specs.Way.Digits.{Holds}
-use Rattle.out_text.specs.declared.Digits.{Digits}
 use Rattle.out_text.specs.Written.{Written}
 use Rattle.out_text.proofs.WrittenLaws.{written_is}
 
@@ -24,16 +22,13 @@ pub found_none : (n : ℕ) → Found n (replicate 20 0) 20 n
 unfolding decimal
 found_none n = record { long = refl; inside = omega arith; digits = refl }
 
+-- a step stores the last digit of `left` in front of the digits found so far
 module _ (n : ℕ) (bytes : List ℕ) (from left : ℕ) (found : Found n bytes from left) where
-  pub found_all : from ≤ 0 → Holds (record { bytes = bytes; from = from }) n
+  pub found_all : from ≤ 0 → bytes ≡ decimal n
   unfolding digits_before
   found_all h =
       let e : from ≡ 0 = omega arith in
-      let d : digits_before from left (drop from bytes) ≡ decimal n = found.digits in
-      record { long = found.long; inside = found.inside; digits = all e d }
-    where
-      all : from ≡ 0 → digits_before from left (drop from bytes) ≡ decimal n → drop from bytes ≡ decimal n
-      all e d = ap (λ (k : ℕ). digits_before k left (drop from bytes)) (sym e) ∙ d
+      ap (λ (k : ℕ). digits_before k left (drop k bytes)) (sym e) ∙ found.digits
 
   module _ (h : 0 < from) (digit : ℕ) (is_digit : digit ≡ last_digit left) where
     abbrev stored : List ℕ
@@ -56,16 +51,9 @@ module _ (n : ℕ) (bytes : List ℕ) (from left : ℕ) (found : Found n bytes f
         let s : suc (from - 1) ≡ from = omega arith in
         ap (λ (p : ℕ). digits_before p left (drop from bytes)) s ∙ found.digits
 
-    pub found_last : left < 10 → Holds (record { bytes = stored; from = from - 1 }) n
+    found_last : left < 10 → drop (from - 1) stored ≡ decimal n
     unfolding digits_before
-    found_last k =
-        let l : length bytes ≡ 20 = found.long in
-        let i : from ≤ 20 = found.inside in
-        record {
-          long = length-set bytes (from - 1) digit ∙ l;
-          inside = omega arith;
-          digits = stored_drop ∙ sym (if_true _ _ (lt-ltb left 10 k)) ∙ before;
-        }
+    found_last k = stored_drop ∙ sym (if_true _ _ (lt-ltb left 10 k)) ∙ before
 
     pub found_on : 10 ≤ left → Found n stored (from - 1) (left / 10)
     unfolding digits_before
@@ -78,15 +66,13 @@ module _ (n : ℕ) (bytes : List ℕ) (from left : ℕ) (found : Found n bytes f
           digits = ap (digits_before (from - 1) (left / 10)) stored_drop ∙ sym (if_false _ _ (le-ltb left 10 k)) ∙ before;
         }
 
--- the part of the array that is printed
-module _ (d : Digits) (n : ℕ) (holds : Holds d n) where
-  digits_part : take (20 - d.from) (drop d.from d.bytes) ≡ decimal n
-  digits_part =
-      let l : length d.bytes ≡ 20 = holds.long in
-      let k : length (drop d.from d.bytes) ≡ length d.bytes - d.from = length-drop d.from d.bytes in
-      let m : length (drop d.from d.bytes) ≤ 20 - d.from = omega arith in
-      take_all (20 - d.from) (drop d.from d.bytes) m ∙ holds.digits
+    -- the part of the buffer that is printed: from the first digit to the end
+    pub last_written : left < 10 → (a b : List ℕ) (at next after : ℕ) →
+        Written a b at next (take (20 - (from - 1)) (drop (from - 1) stored) ++ (after ∷ [])) → Written a b at next (decimal n ++ (after ∷ []))
+    last_written k a b at next after w =
+        let l : length stored ≡ 20 = length-set bytes (from - 1) digit ∙ found.long in
+        let m : length (drop (from - 1) stored) ≤ 20 - (from - 1) = rw length-drop (omega arith) in
+        written_is (ap (λ (xs : List ℕ). xs ++ (after ∷ [])) (take_all (20 - (from - 1)) (drop (from - 1) stored) m ∙ found_last k)) w
 
-  pub decimal_written : (a b : List ℕ) (at next after : ℕ) →
-      Written a b at next (take (20 - d.from) (drop d.from d.bytes) ++ (after ∷ [])) → Written a b at next (decimal n ++ (after ∷ []))
-  decimal_written a b at next after w = written_is (ap (λ (xs : List ℕ). xs ++ (after ∷ [])) digits_part) w
+  pub all_written : from ≤ 0 → (a b : List ℕ) (at next after : ℕ) → Written a b at next (bytes ++ (after ∷ [])) → Written a b at next (decimal n ++ (after ∷ []))
+  all_written h a b at next after w = written_is (ap (λ (xs : List ℕ). xs ++ (after ∷ [])) (found_all h)) w

@@ -4,12 +4,13 @@
 use mathlib.Core.Path.{◌≡◌, refl, sym, ◌∙◌, ap}
 use mathlib.Core.Bool.{true, false}
 use mathlib.Core.List.{List, [], ◌∷◌, ◌++◌}
-use Prim.Native.Nat.{ℕ, suc, ◌+◌, ◌≤◌, ◌<◌, min}
+use Prim.Native.Nat.{ℕ, suc, ◌+◌, ◌-◌, ◌≤◌, ◌<◌, min}
 use native.Mathlib.Nat.{min-eq_left, le_of_lt}
-use native.Mathlib.Numerals.{add-one}
 use native.Mathlib.Omega.{arith}
-use lib.ListN.{take, length, drop, get_or, set, length-append, drop_of_length-le}
-use lib.Seq.{sets-eq, take-append_seam, sets, length-sets, set_out, drop-cons}
+use lib.ListN.{take, length, drop, set, length-append, length-take, take-append-drop}
+use lib.Seq.{sets-eq, take-append_seam, take_all, sets, length-sets, set_out}
+use borrow.Rule.Slice.PartMut.{put_mid}
+use Rattle.std.proofs.lemmas.Slice.{put_mid-paste}
 use lib.Dec.{leb}
 use borrow.Author.Tests.{leb-true, leb-false}
 use Rattle.base.proofs.IfLaws.{by_cases}
@@ -114,36 +115,40 @@ module _ (out₀ : List ℕ) (at : ℕ) (whole out : List ℕ) (next : ℕ) wher
       let h : next ≤ length out = rest.inside in
       record { image = rest.image; place = omega arith }
 
-  -- the end of the room is reached
-  pub rest_full : (left : List ℕ) → Rest out₀ at whole out next left → length out ≤ next → Written out₀ out at next whole
-  rest_full left rest h =
-      let f : min (next + length left) (length out) ≡ min (at + length whole) (length out₀) = rest.place in
-      let k : next ≤ length out = rest.inside in
-      record { image = sym (sets_out out next left h) ∙ rest.image; place = omega arith }
+-- ---- a byte, and bytes
 
--- ---- bytes one by one
+-- storing what fits is storing all: the rest is past the end
+sets_fitting : (out bytes : List ℕ) (start size : ℕ) → start ≤ length out → size ≡ min (length bytes) (length out - start) →
+    sets out start (take size bytes) ≡ sets out start bytes
+sets_fitting out bytes start size h e =
+    by_cases _ (leb (length bytes) (length out - start))
+    (λ (t : leb (length bytes) (length out - start) ≡ true).
+    let k : length bytes ≤ length out - start = leb-true _ _ t in
+    let m : length bytes ≤ size = omega arith in
+    ap (sets out start) (take_all size bytes m))
+    (λ (t : leb (length bytes) (length out - start) ≡ false).
+    let k : length out - start < length bytes = leb-false _ _ t in
+    let l : length (take size bytes) ≡ min size (length bytes) = length-take size bytes in
+    let m : length (sets out start (take size bytes)) ≤ start + length (take size bytes) = rw (length-sets out start (take size bytes)) (omega arith) in
+    sym (sets_out (sets out start (take size bytes)) (start + length (take size bytes)) (drop size bytes) m)
+    ∙ sym (sets_append out start (take size bytes) (drop size bytes))
+    ∙ ap (sets out start) (take-append-drop size bytes))
 
-pub byte_written : (out : List ℕ) (at byte : ℕ) → at < length out → Written out (set out at byte) at (at + 1) (byte ∷ [])
-byte_written out at byte h = record { image = refl; place = omega arith }
-
-pub byte_dropped : (out : List ℕ) (at byte : ℕ) → length out ≤ at → Written out out at (length out) (byte ∷ [])
-byte_dropped out at byte h = record { image = sym (set_out out at byte h); place = omega arith }
-
-module _ (out₀ : List ℕ) (at : ℕ) (bytes out : List ℕ) (next i : ℕ) (rest : Rest out₀ at bytes out next (drop i bytes)) where
-  pub bytes_on : i < length bytes → next < length out → Rest out₀ at bytes (set out next (get_or bytes i 0)) (next + 1) (drop (i + 1) bytes)
-  bytes_on h k =
-      let e : drop i bytes ≡ get_or bytes i 0 ∷ drop (i + 1) bytes = rw (add-one i) (drop-cons bytes i 0 h) in
-      let r : Rest out₀ at bytes out next ((get_or bytes i 0 ∷ []) ++ drop (i + 1) bytes) = rw e at rest in
-      rest_on out₀ at bytes out next (get_or bytes i 0 ∷ []) (drop (i + 1) bytes) r (set out next (get_or bytes i 0)) (next + 1)
-      (byte_written out next (get_or bytes i 0) k)
-
-  pub bytes_done : length bytes ≤ i → Written out₀ out at next bytes
-  bytes_done h =
-      let r : Rest out₀ at bytes out next [] = rw (drop_of_length-le bytes h) at rest in
-      rest_done out₀ at bytes out next r
-
-  pub bytes_full : length out ≤ next → Written out₀ out at next bytes
-  bytes_full h = rest_full out₀ at bytes out next (drop i bytes) rest h
+pub fitting_written : (out bytes : List ℕ) (at start size : ℕ) → start ≡ min at (length out) → size ≡ min (length bytes) (length out - start) →
+    (part : List ℕ) → part ≡ take size bytes → Written out (put_mid start (start + size - start) out part) at (start + size) bytes
+fitting_written out bytes at start size s e part p =
+    let h : start ≤ length out = omega arith in
+    let l : length part ≡ size = ap length p ∙ length-take size bytes ∙ omega arith in
+    let k : start + size - start ≡ length part = omega arith in
+    let m : start + length part ≤ length out = omega arith in
+    record {
+      image = put_mid-paste start (start + size - start) out part part (length part) refl (sym k) refl
+          ∙ ap (λ (xs : List ℕ). (take start out ++ xs) ++ drop (start + length part) out) (take_all (length part) part (omega arith))
+          ∙ sym (sets-eq part out start m)
+          ∙ ap (sets out start) p
+          ∙ sets_fitting out bytes start size h e ∙ ap (λ (k : ℕ). sets out k bytes) s ∙ sets_cut out at bytes;
+      place = omega arith;
+    }
 
 -- ---- what a program prints: the part that was written
 

@@ -1,3 +1,2 @@
 pub mod Printing
 pub mod Written
-pub mod Way

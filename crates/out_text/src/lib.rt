@@ -5,49 +5,26 @@
 ghost use Rattle.std.specs.Prelude.{◌≡◌, ◌∷◌, [], ◌++◌, min};
 ghost use Rattle.out_text.specs.Printing.{last_digit, decimal, sign_text, exponent_text, value_text};
 ghost use Rattle.out_text.specs.Written.{Written};
-ghost use Rattle.out_text.specs.Way.Digits.{Holds};
-
-// The digits of a number: the bytes from `from` on.
-#[derive(Clone, Copy)]
-struct Digits {
-    bytes: [u8; 20],
-    from: usize,
-}
-
-// The lesser of two offsets.
-pub fn lesser(a: usize, b: usize) -> usize
-    ensures { result ≡ min a b }
-{
-    if a < b {
-        return a;
-    }
-    b
-}
 
 pub fn put_byte(out: &mut [u8], at: usize, byte: u8) -> usize
     ensures { Written out.old out.new at result (byte ∷ []) }
 {
-    if out.len() <= at {
-        return out.len();
+    if at < out.len() {
+        out[at] = byte;
+        at + 1
+    } else {
+        out.len()
     }
-    out[at] = byte;
-    at + 1
 }
 
+// What fits of the bytes.
 fn put_bytes(out: &mut [u8], at: usize, bytes: &[u8]) -> usize
     ensures { Written out.old out.new at result bytes.now }
 {
-    let mut next = lesser(at, out.len());
-    let mut i = 0;
-    while i < bytes.len() {
-        if out.len() <= next {
-            return next;
-        }
-        out[next] = bytes[i];
-        next += 1;
-        i += 1;
-    }
-    next
+    let start = at.min(out.len());
+    let size = bytes.len().min(out.len() - start);
+    out[start..start + size].copy_from_slice(&bytes[..size]);
+    start + size
 }
 
 // A field and the byte after it: the space before the next one, or the end of the line.
@@ -64,39 +41,31 @@ fn last_digit(n: u64) -> u8
     b'0' + (n % 10) as u8
 }
 
-fn digits_of(n: u64) -> Digits
-    ensures { Holds result n }
-{
-    let mut bytes = [0u8; 20];
-    let mut from = 20;
-    let mut left = n;
-    while 0 < from {
-        from -= 1;
-        bytes[from] = last_digit(left);
-        if left < 10 {
-            return Digits { bytes, from };
-        }
-        left = left / 10;
-    }
-    Digits { bytes, from }
-}
-
+// The last digit is found first, so the digits stand at the end of the buffer.
 pub fn put_decimal(out: &mut [u8], at: usize, n: u64, after: u8) -> usize
     ensures { Written out.old out.new at result (decimal n ++ (after ∷ [])) }
 {
-    let digits = digits_of(n);
-    let bytes = digits.bytes;
-    let from = digits.from;
-    put_field(out, at, &bytes[from..], after)
+    let mut digits = [0u8; 20];
+    let mut left = n;
+    // By index: of a slice behind `iter_mut().rev()` no proof knows what it holds.
+    for from in (0..digits.len()).rev() {
+        digits[from] = last_digit(left);
+        if left < 10 {
+            return put_field(out, at, &digits[from..], after);
+        }
+        left /= 10;
+    }
+    put_field(out, at, &digits, after)
 }
 
 fn put_sign(out: &mut [u8], at: usize, negative: bool) -> usize
     ensures { Written out.old out.new at result (sign_text negative) }
 {
     if negative {
-        return put_byte(out, at, b'-');
+        put_byte(out, at, b'-')
+    } else {
+        at.min(out.len())
     }
-    lesser(at, out.len())
 }
 
 fn put_exponent(out: &mut [u8], at: usize, shifted: u64, after: u8) -> usize
@@ -104,9 +73,10 @@ fn put_exponent(out: &mut [u8], at: usize, shifted: u64, after: u8) -> usize
 {
     if shifted < 64 {
         let size = put_byte(out, at, b'-');
-        return put_decimal(out, size, 64 - shifted, after);
+        put_decimal(out, size, 64 - shifted, after)
+    } else {
+        put_decimal(out, at, shifted - 64, after)
     }
-    put_decimal(out, at, shifted - 64, after)
 }
 
 // A value word as m, `e` and k.

@@ -24,7 +24,7 @@ use Rattle.read_line.specs.Reading.{read_from, reading_of}
 use Rattle.read_line.specs.Way.Walk.{resume, Onward, ResumesText, ResumesPart, NoProgressMeansBracket, HoldsPart, with_path, with_pinned}
 use Rattle.read_line.specs.declared.Walk.{Walk}
 use Rattle.read_path.specs.declared.PathWalk.{PathWalk}
-use Rattle.read_line.specs.declared.fast.Passing.{Passing}
+use Rattle.lex_line.specs.declared.fast.Past.{Past}
 use Rattle.read_line.proofs.CrossLaws.{crossed_reached, stays_elsewhere}
 use Rattle.doc.specs.Lines.{Line, lines_at, significant, gather}
 use Rattle.doc.specs.Document.{step_of, model_at, pin_at, map_at, section_at, document_in, document_of}
@@ -264,7 +264,7 @@ module _ (t : List ℕ) (at line : ℕ) (s : State) (on : Onward t at line s) (t
 
 -- ---- lines that change nothing
 
-module _ (t : List ℕ) (at line : ℕ) (s : State) (on : Onward t at line s) (r : Passing) (skips : SkipsIdle t at line s.place r) (o : Open)
+module _ (t : List ℕ) (at line : ℕ) (s : State) (on : Onward t at line s) (r : Past) (skips : SkipsIdle t at line s.place r) (o : Open)
     (models steps maps pins : List ℕ) where
   idle_stays : s.place ≡ place.list → Stays place.list s s
   idle_stays there =

@@ -70,7 +70,7 @@ fn close_map(s: State, block: Open, maps: &mut [u64])
         first: block.first,
         pins: base::minus(counts.pins, block.first),
     };
-    table_record::stage::put_map(maps, base::minus(counts.maps, 1), own);
+    table_record::stage::put(maps, base::minus(counts.maps, 1), own);
 }
 
 // Stages the open model, if the line leads out of it.
@@ -96,7 +96,7 @@ fn close_model(s: State, place: u64, block: Open, models: &mut [u64])
         model: own,
         sgr: block.sgr,
     };
-    table_record::stage::put_model(models, base::minus(counts.models, 1), staged);
+    table_record::stage::put(models, base::minus(counts.models, 1), staged);
 }
 
 // The block that a line opens: its name is the argument of the keyword.
@@ -382,6 +382,7 @@ pub fn read_family(
         sgr: 0,
     };
     let mut list = doc::start();
+    // No for: each turn finds where the next lines start.
     while at < text.len() {
         if s.place == line_place::AFTER {
             let walk = Walk {

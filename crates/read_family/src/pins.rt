@@ -37,7 +37,7 @@ fn pin_line(content: &[u8], at: usize, map: Map, pins: u64, stage: &mut [u64]) -
         start: name.start as u64,
         size: name.size as u64,
     };
-    table_record::stage::put_pin(stage, pins, pin);
+    table_record::stage::put(stage, pins, pin);
     Pinned {
         taken: true,
         rule: 0,
@@ -96,6 +96,7 @@ pub fn pass_pins(
         map,
         pins,
     };
+    // No for: each turn finds where the next line starts.
     while here < text.len() {
         let found = lex_line::line_at(text, here, lex_line::COMMENT);
         let content = found.content;

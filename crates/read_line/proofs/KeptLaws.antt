@@ -1,6 +1,7 @@
 -- The bounds of the state hold after each line without a keyword that breaks no rule: rule 17 is checked for every
 -- count that such a line raises. And what each update requires: the sizes that it adds to are small.
 -- Assumes nothing.
+use Rattle.std.proofs.Common.{unwrap_or, Option}
 use mathlib.Core.Path.{◌≡◌, refl, sym, ◌∙◌}
 use mathlib.Core.Bool.{true, false}
 use mathlib.Core.List.{List}
@@ -16,7 +17,6 @@ use Rattle.base.proofs.IfLaws.{by_test, by_cases, both_first, both_second, both_
 use Rattle.base.proofs.BrokenLaws.{all_kept}
 use Rattle.lex_line.specs.Words.{words, first_of}
 use Rattle.lex_number.specs.Integer.{value_of, is_integer, whole_of}
-use Rattle.lex_number.specs.declared.Whole.{Whole}
 use Rattle.lex_number.proofs.IntegerLaws.{integer_below}
 use Rattle.line_place.specs.Place as place
 use Rattle.line_path.specs.Path.{says_side, closed, path_line_of, is_step_line, open_rules}
@@ -101,10 +101,10 @@ module _ (content : List ℕ) (s : State) where
   values_fit e kept = data_fits (data_line_of s.matrix.form content) s.matrix s.counts.values (sym (rule_matrix content s e) ∙ kept)
 
 -- an integer has at most 9 digits
-pub whole_most : (w : List ℕ) → (whole_of w).value ≤ 999_999_999
+pub whole_most : (w : List ℕ) → unwrap_or (whole_of w) 0 ≤ 999_999_999
 unfolding whole_of
 whole_most w =
-    by_test (λ (x : Whole). x.value ≤ 999_999_999) (is_integer w) _ _
+    by_test (λ (x : Option ℕ). unwrap_or x 0 ≤ 999_999_999) (is_integer w) _ _
     (λ (e : is_integer w ≡ true). let h : value_of 0 w < 1_000_000_000 = integer_below w e in omega arith)
     (λ (e : is_integer w ≡ false). omega arith)
 
@@ -115,7 +115,7 @@ Narrow l = l.column < 4_294_967_296
 sparse_narrow : (ws : List (List ℕ)) → Narrow (sparse_line ws)
 unfolding sparse_line
 sparse_narrow ws =
-    by_test Narrow _ _ _ (λ e. let h : (whole_of (first_of ws)).value ≤ 999_999_999 = whole_most (first_of ws) in omega arith) (λ e. omega arith)
+    by_test Narrow _ _ _ (λ e. let h : unwrap_or (whole_of (first_of ws)) 0 ≤ 999_999_999 = whole_most (first_of ws) in omega arith) (λ e. omega arith)
 
 numbers_narrow : (ws : List (List ℕ)) → Narrow (numbers_line ws)
 unfolding numbers_line

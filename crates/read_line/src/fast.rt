@@ -9,13 +9,6 @@ ghost use Rattle.lex_keyword.specs.declared.Bracket.TheVariants.{Plain, Indented
 
 use lex_keyword::Bracket;
 
-// Where the lines that change nothing end: the offset of the next line, and which line that is.
-#[derive(Clone, Copy)]
-pub struct Passing {
-    pub at: usize,
-    pub line: u64,
-}
-
 // If a line starts with such a byte, it has no bracket at its front and its first word is not reserved.
 fn is_free(b: u8) -> bool
     ensures { result ≡ is_free b }

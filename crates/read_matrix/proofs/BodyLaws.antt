@@ -28,7 +28,6 @@ use Rattle.doc.proofs.FoundLaws.{pass_over, stop_here}
 use Rattle.doc.proofs.GatherLaws.{up_in}
 use Rattle.read_numbers.specs.declared.Staging.{Staging}
 use Rattle.read_numbers.specs.Way.Staging.{HeldValues, Adds}
-use Rattle.read_numbers.proofs.GivenLaws.{told_untold}
 use Rattle.read_matrix.specs.declared.Data.{Data}
 use Rattle.read_matrix.specs.Way.Body.{body_lines, new_staging, Ends, Takes, Left, ResumesMatrix}
 use Rattle.read_matrix.specs.Way.Run.{Gone, LeftPart}
@@ -106,7 +105,7 @@ module _ (t : List ℕ) (at line : ℕ) (m : Matrix) (values : ℕ) (a : Staging
       rw new
       (record {
         held = λ (whole rest : List Value) (h : HeldValues whole table values (values_from m.form 1 1 (body_lines t line at) ++ rest)). h;
-        bandwidth = told_untold _;
+        bandwidth = refl;
         greatest = omega arith;
         rest = λ (ls : List Line) (e : lines_at t line at place.matrix ≡ body_lines t line at ++ ls). e;
       })

@@ -1,6 +1,8 @@
 -- Laws of one line of a matrix that is judged and staged: a line of numbers, [Row] and [Bandwidth], and a line that
 -- ends the matrix.
 -- Assumes nothing.
+use Rattle.std.proofs.Common.{unwrap_or, Option, Some}
+use Rattle.std.specs.Option.{option_or}
 use mathlib.Core.Path.{◌≡◌, refl, sym, ◌∙◌, ap}
 use mathlib.Core.Bool.{Bool, true, false, true≢false}
 use mathlib.Core.List.{List, ◌∷◌, ◌++◌}
@@ -17,7 +19,6 @@ use Rattle.table_layout.specs.Bounds.{most_values}
 use Rattle.base.proofs.IfLaws.{if_true, if_false, by_cases, both_true, either_left, either_right, either_rest}
 use Rattle.lex_line.specs.Lines.{is_blank_line}
 use Rattle.lex_number.specs.Integer.{whole_of}
-use Rattle.lex_number.specs.declared.Whole.{Whole}
 use Rattle.lex_keyword.specs.Names.{row, bandwidth}
 use Rattle.lex_keyword.specs.Bracket.{bracket_of}
 use Rattle.lex_keyword.specs.declared.Bracket.{Bracket}
@@ -42,8 +43,6 @@ use Rattle.read_line.proofs.QuietLaws.{words_decide, quiet_blank}
 use Rattle.doc.specs.Lines.{Line, plain, key_in, key_at, key_of, argument_in, argument_of}
 use Rattle.doc.specs.Document.{in_matrix, given_by, bandwidth_in, greatest_in, values_from}
 use Rattle.read_numbers.specs.Way.Numbers.{most_given}
-use Rattle.read_numbers.specs.Way.Told.{first_told, told_or}
-use Rattle.read_numbers.specs.declared.First.{First}
 use Rattle.read_numbers.specs.declared.Staging.{Staging}
 use Rattle.read_numbers.specs.Way.Staging.{HeldValues, BoundedStaging, Adds}
 use Rattle.read_numbers.proofs.GivenLaws.{told_first, whole_below, most_of, row_values, row_bandwidth, row_greatest, bandwidth_values, bandwidth_told, bandwidth_greatest}
@@ -217,11 +216,11 @@ module _ (content : List ℕ) (k start : ℕ) (is : bracket_of content ≡ Keywo
   unfolding key_of key_at
   keyed l e = ap (λ (c : List ℕ). key_in (bracket_of c)) e ∙ ap key_in is
 
-  given : (l : Line) → l.content ≡ content → given_by l ≡ (whole_of (argument_from content start)).value
+  given : (l : Line) → l.content ≡ content → given_by l ≡ unwrap_or (whole_of (argument_from content start)) 0
   unfolding given_by argument_of
   given l e =
-      ap (λ (c : List ℕ). (whole_of (argument_from c (argument_in (bracket_of c)))).value) e
-      ∙ ap (λ (b : Bracket). (whole_of (argument_from content (argument_in b))).value) is
+      ap (λ (c : List ℕ). unwrap_or (whole_of (argument_from c (argument_in (bracket_of c)))) 0) e
+      ∙ ap (λ (b : Bracket). unwrap_or (whole_of (argument_from content (argument_in b))) 0) is
 
 -- [Row] and [Bandwidth] leave the form as it is
 kept_form : (k : ℕ) (argument : List ℕ) (m : Matrix) (values : ℕ) → (matrix_keyword_next k argument m values).form ≡ m.form
@@ -254,12 +253,12 @@ module _ (k : ℕ) (argument : List ℕ) (m : Matrix) (values : ℕ) (a : Stagin
         bounded = bound;
       }
 
-  pub keeps_go : n ≡ 0 → (whole : Whole) → whole ≡ whole_of argument → (next : Matrix) → next ≡ matrix_keyword_next k argument m values → (b : Staging) → b ≡ keyword_staging k whole.value a →
+  pub keeps_go : n ≡ 0 → (whole : Option ℕ) → whole ≡ whole_of argument → (value : ℕ) → value ≡ unwrap_or whole 0 → (next : Matrix) → next ≡ matrix_keyword_next k argument m values → (b : Staging) → b ≡ keyword_staging k value a →
       TakesKeyword k argument m values a (record { taken = true; rule = 0; matrix = next; values = values; staging = b })
   unfolding goes breaks
-  keeps_go z whole whole_is next next_is b b_is =
-      let v : whole.value ≡ (whole_of argument).value = ap (λ (x : Whole). x.value) whole_is in
-      let small : whole.value < most_given = rw v (whole_below argument) in
+  keeps_go z whole whole_is value value_is next next_is b b_is =
+      let v : value ≡ unwrap_or (whole_of argument) 0 = value_is ∙ ap (λ (x : Option ℕ). unwrap_or x 0) whole_is in
+      let small : value < most_given = rw v (whole_below argument) in
       record {
         taken = refl;
         decides = λ (s : State) (p : s.place ≡ place.matrix).
@@ -268,14 +267,14 @@ module _ (k : ℕ) (argument : List ℕ) (m : Matrix) (values : ℕ) (a : Stagin
         form = ap (λ (x : Matrix). x.form) next_is ∙ kept_form k argument m values;
         same = refl;
         staging = λ (y : ◌≡◌ {A = ℕ} 0 0). b_is ∙ ap (λ (x : ℕ). keyword_staging k x a) v;
-        bounded = rw b_is (kept_bounded k whole.value a values small bound);
+        bounded = rw b_is (kept_bounded k value a values small bound);
       }
 
 abbrev rowed : Staging → ℕ → Staging
 rowed a n = record { row = n; column = n; bandwidth = a.bandwidth; greatest = max a.greatest n }
 
 abbrev banded : Staging → ℕ → Staging
-banded a n = record { row = a.row; column = a.column; bandwidth = first_told a.bandwidth n; greatest = a.greatest }
+banded a n = record { row = a.row; column = a.column; bandwidth = option_or a.bandwidth (Some n); greatest = a.greatest }
 
 -- what [Row] or [Bandwidth] adds
 kept_adds : (form : ℕ) (k : ℕ) (l : Line) (table : List ℕ) (values : ℕ) (a : Staging) → is_row_or_bandwidth k ≡ true → key_of l ≡ k → BoundedStaging (keyword_staging k (given_by l) a) values →
@@ -292,7 +291,7 @@ kept_adds form k l table values a keeps key bound =
         (record {
           held = λ (ls : List Line) (whole rest : List Value) (h : HeldValues whole table values (values_from form a.row a.column (l ∷ ls) ++ rest)).
               held_same value_words value_width whole table values _ h _ (ap (λ (vs : List Value). vs ++ rest) (row_values form l ls is_row a.row a.column));
-          bandwidth = λ (ls : List Line). ap (told_or a.bandwidth) (sym (row_bandwidth form l ls is_row));
+          bandwidth = λ (ls : List Line). ap (unwrap_or a.bandwidth) (sym (row_bandwidth form l ls is_row));
           greatest = λ (ls : List Line). most_of a.greatest (given_by l) _ _ (greatest_in form ls) (row_greatest form l ls is_row) refl;
           bounded = rw f at bound;
         })
@@ -305,7 +304,7 @@ kept_adds form k l table values a keeps key bound =
         (record {
           held = λ (ls : List Line) (whole rest : List Value) (h : HeldValues whole table values (values_from form a.row a.column (l ∷ ls) ++ rest)).
               held_same value_words value_width whole table values _ h _ (ap (λ (vs : List Value). vs ++ rest) (bandwidth_values form l ls is a.row a.column));
-          bandwidth = λ (ls : List Line). told_first a.bandwidth (given_by l) (bandwidth_in ls) ∙ ap (told_or a.bandwidth) (sym (bandwidth_told form l ls is));
+          bandwidth = λ (ls : List Line). told_first a.bandwidth (given_by l) (bandwidth_in ls) ∙ ap (unwrap_or a.bandwidth) (sym (bandwidth_told form l ls is));
           greatest = λ (ls : List Line). most_of a.greatest 0 a.greatest _ (greatest_in form ls) (bandwidth_greatest form l ls is) (omega arith);
           bounded = rw f at bound;
         })
@@ -329,7 +328,7 @@ module _ (content : List ℕ) (filled : is_blank_line content ≡ false) (k star
 
       added : (table : List ℕ) → r.rule ≡ 0 → (l : Line) → l.content ≡ content → Adds m.form l table values a table r.values r.staging
       added table z l c =
-          let g : (whole_of argument).value ≡ given_by l = ap (λ (x : List ℕ). (whole_of x).value) argument_is ∙ sym (given content k start is l c) in
+          let g : unwrap_or (whole_of argument) 0 ≡ given_by l = ap (λ (x : List ℕ). unwrap_or (whole_of x) 0) argument_is ∙ sym (given content k start is l c) in
           let n : r.staging ≡ keyword_staging k (given_by l) a = kept.staging z ∙ ap (λ (x : ℕ). keyword_staging k x a) g in
           let b : BoundedStaging (keyword_staging k (given_by l) a) values = rw n at kept.bounded in
           rw (kept.same, n)
@@ -373,9 +372,9 @@ module _ (k value : ℕ) (a : Staging) where
   unfolding keyword_staging
   row_staged g told e = ap (λ (x : ℕ). record { row = value; column = value; bandwidth = a.bandwidth; greatest = x }) told ∙ sym (if_true {A = Staging} _ _ (eq-eqb _ _ e))
 
-  pub bandwidth_staged : (b : First) → b ≡ first_told a.bandwidth value → (k ≡ 1 → ⊥) → record { row = a.row; column = a.column; bandwidth = b; greatest = a.greatest } ≡ keyword_staging k value a
+  pub bandwidth_staged : (b : Option ℕ) → b ≡ option_or a.bandwidth (Some value) → (k ≡ 1 → ⊥) → record { row = a.row; column = a.column; bandwidth = b; greatest = a.greatest } ≡ keyword_staging k value a
   unfolding keyword_staging
-  bandwidth_staged b told h = ap (λ (x : First). record { row = a.row; column = a.column; bandwidth = x; greatest = a.greatest }) told ∙ sym (if_false {A = Staging} _ _ (ne_eqb _ _ h))
+  bandwidth_staged b told h = ap (λ (x : Option ℕ). record { row = a.row; column = a.column; bandwidth = x; greatest = a.greatest }) told ∙ sym (if_false {A = Staging} _ _ (ne_eqb _ _ h))
 
 -- what was read of a bracket
 pub bracket_told : (content : List ℕ) (b c : Bracket) → b ≡ bracket_of content → b ≡ c → bracket_of content ≡ c

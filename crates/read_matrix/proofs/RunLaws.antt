@@ -1,7 +1,7 @@
 -- Laws of runs of plain lines inside a matrix: one line of a run, and how far a run has come.
 -- Assumes nothing.
 use mathlib.Core.Path.{◌≡◌, refl, sym, ◌∙◌, ap, subst}
-use mathlib.Core.Bool.{Bool, true, false, not, true≢false}
+use mathlib.Core.Bool.{Bool, true, false, not, true≢false, ◌&&◌}
 use mathlib.Core.List.{List}
 use Prim.Native.Nat.{ℕ, ◌+◌, ◌-◌, ◌*◌, ◌^◌, ◌≤◌, ◌<◌, max}
 use mir.Syntax.{w64}
@@ -14,7 +14,7 @@ use borrow.Author.Tests.{eq-eqb, ne_eqb, not-true, not-false, le-ltb, ltb-false}
 use Rattle.table_layout.specs.Codes.{diagonal, sparse}
 use Rattle.table_layout.specs.Bounds.{most_values}
 use Rattle.base.specs.If.{both}
-use Rattle.base.proofs.IfLaws.{if_true, if_false, by_test, both_true, both_not_left, both_rest, either_false, either_none_first, either_none_second, not_via, not_not_via}
+use Rattle.base.proofs.IfLaws.{if_true, if_false, by_test, both_true, both_not_left, both_rest, either_false, either_none_first, either_none_second, not_via, not_not_via, both_and}
 use Rattle.base.proofs.BrokenLaws.{sound, gives_later, all_kept}
 use Rattle.base.specs.Bytes.{line_feed, is_before, is_content}
 use Rattle.base.specs.Way.Class.{run_end}
@@ -535,11 +535,11 @@ module _ (t : List ℕ) (at line : ℕ) (part : Data) (table₀ : List ℕ) wher
             ).staging on.bounded refl) refl refl more takes.long)
 
         pub pairs_next : part.matrix.form ≡ sparse → is_ordered part.matrix ≡ true → here < length t →
-            (fits' : Bool) → fits' ≡ both fits (leb least next.column) → (greatest' : ℕ) → greatest' ≡ max greatest next.column →
+            (greatest' : ℕ) → greatest' ≡ max greatest next.column →
             (named' : ℕ) → named' ≡ max named next.column →
             On t at line part table₀ next.next (number + 1)
-            (pairs_part part (values + 1) (pairs_matrix part.matrix (next.column + 1) greatest' fits') named') table'
-        pairs_next form_is ordered h fits' f greatest' g named' n = rw (f, g, n) (moved form_is ordered h)
+            (pairs_part part (values + 1) (pairs_matrix part.matrix (next.column + 1) greatest' (fits && leb least next.column)) named') table'
+        pairs_next form_is ordered h greatest' g named' n = rw (sym (both_and fits (leb least next.column)), g, n) (moved form_is ordered h)
 
 -- ---- a run, and the line after it
 

@@ -19,7 +19,7 @@ ghost use Rattle.read_matrix.specs.Way.Run.{ResumesRun, is_ordered, Runs, number
 use lex_keyword::Bracket;
 use line_matrix::{Matrix, Rows};
 use read_line::Front;
-use read_numbers::{First, Staging};
+use read_numbers::Staging;
 
 const OPENING: u8 = b'[';
 
@@ -38,14 +38,10 @@ pub struct Data {
 fn new_staging() -> Staging
     ensures { result ≡ new_staging }
 {
-    let bandwidth = First {
-        told: false,
-        value: 0,
-    };
     Staging {
         row: 1,
         column: 1,
-        bandwidth,
+        bandwidth: None,
         greatest: 0,
     }
 }
@@ -82,7 +78,7 @@ fn keyword_staging(key: u64, value: u64, staging: Staging) -> Staging
     Staging {
         row: staging.row,
         column: staging.column,
-        bandwidth: read_numbers::first_told(before, value),
+        bandwidth: before.or(Some(value)),
         greatest: staging.greatest,
     }
 }
@@ -108,13 +104,13 @@ fn matrix_keyword_line(
             staging,
         };
     }
-    let whole = lex_number::read_integer(argument);
+    let given = lex_number::read_integer(argument).unwrap_or(0);
     Data {
         taken: true,
         rule: 0,
         matrix: line_keyword::matrix_keyword_next(key, argument, matrix, values),
         values,
-        staging: keyword_staging(key, whole.value, staging),
+        staging: keyword_staging(key, given, staging),
     }
 }
 
@@ -342,6 +338,7 @@ fn pass_numbers(text: &[u8], at: usize, line: u64, part: Data, table: &mut [u64]
     let mut values = part.values;
     let mut row = staging.row;
     let mut column = staging.column;
+    // No for: each turn finds where the next line starts.
     while here < text.len() {
         let next = take_numbers(text, here, form, values, table, row, column);
         if !next.taken {
@@ -475,6 +472,7 @@ fn pass_pairs(text: &[u8], at: usize, line: u64, part: Data, table: &mut [u64]) 
     let mut greatest = rows.greatest;
     let mut fits = rows.fits;
     let mut named = staging.greatest;
+    // No for: each turn finds where the next line starts.
     while here < text.len() {
         let next = take_pair(text, here, values, table, row);
         if !next.taken {
@@ -484,7 +482,7 @@ fn pass_pairs(text: &[u8], at: usize, line: u64, part: Data, table: &mut [u64]) 
         here = next.next;
         line_here += 1;
         values += 1;
-        fits = base::and(fits, least <= next.column);
+        fits &= least <= next.column;
         least = next.column + 1;
         greatest = base::greater(greatest, next.column);
         named = base::greater(named, next.column);
@@ -544,6 +542,7 @@ pub fn pass_data(
         values,
         staging: new_staging(),
     };
+    // No for: each turn finds where the next line starts.
     while here < text.len() {
         let run = pass_run(text, here, line_here, part, table);
         here = run.at;

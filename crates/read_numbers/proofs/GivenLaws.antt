@@ -1,5 +1,7 @@
 -- Laws of what one line of a matrix gives, by its kind: [Row], [Bandwidth], a line of numbers, and one of a Sparse_matrix.
 -- Assumes nothing.
+use Rattle.std.proofs.Common.{unwrap_or, Option, Some, None}
+use Rattle.std.specs.Option.{option_or}
 use mathlib.Core.Path.{◌≡◌, refl, sym, ◌∙◌, ap}
 use mathlib.Core.Bool.{true, false}
 use mathlib.Core.List.{List, ◌∷◌, ◌++◌}
@@ -12,37 +14,27 @@ use Rattle.table_layout.specs.Codes.{sparse, diagonal}
 use Rattle.base.proofs.IfLaws.{if_true, if_false, by_cases, both_true, both_not_left, both_not_right, not_via, not_not_via}
 use Rattle.lex_line.specs.Words.{words, first_of}
 use Rattle.lex_number.specs.Integer.{is_integer, whole_of}
-use Rattle.lex_number.specs.declared.Whole.{Whole}
 use Rattle.lex_number.proofs.IntegerLaws.{integer_below}
 use Rattle.lex_keyword.specs.Names.{row, bandwidth}
 use Rattle.doc.specs.Lines.{Line, plain, key_of}
 use Rattle.doc.specs.Document.{given_by, bandwidth_in, next_row, numbers_at, sparse_at, values_from, named_by, greatest_in}
-use Rattle.read_numbers.specs.declared.First.{First}
-use Rattle.read_numbers.specs.Way.Told.{untold, first_told, told_or}
 use Rattle.read_numbers.specs.Way.Numbers.{most_given, row_after}
 
 -- ---- values of which the first counts
 
-pub told_untold : (n : ℕ) → told_or untold n ≡ n
-unfolding told_or
-told_untold n = if_false 0 n refl
-
 -- the first value given counts, whatever the rest gives
-pub told_first : (f : First) (n m : ℕ) → told_or (first_told f n) m ≡ told_or f n
-unfolding told_or first_told
-told_first f n m =
-    by_cases _ f.told
-    (λ (e : f.told ≡ true). ap (λ (x : First). told_or x m) (if_true f _ e) ∙ if_true _ _ e ∙ sym (if_true _ _ e))
-    (λ (e : f.told ≡ false). ap (λ (x : First). told_or x m) (if_false f _ e) ∙ if_true n m refl ∙ sym (if_false _ _ e))
+pub told_first : (f : Option ℕ) (n m : ℕ) → unwrap_or (option_or f (Some n)) m ≡ unwrap_or f n
+told_first None n m = refl
+told_first (Some v) n m = refl
 
 -- ---- integers
 
-pub whole_below : (s : List ℕ) → (whole_of s).value < most_given
+pub whole_below : (s : List ℕ) → unwrap_or (whole_of s) 0 < most_given
 unfolding whole_of
 whole_below s =
     by_cases _ (is_integer s)
-    (λ (e : is_integer s ≡ true). rw (if_true {A = Whole} _ _ e) (integer_below s e))
-    (λ (e : is_integer s ≡ false). rw (if_false {A = Whole} _ _ e) (omega arith))
+    (λ (e : is_integer s ≡ true). rw (if_true {A = Option ℕ} _ _ e) (integer_below s e))
+    (λ (e : is_integer s ≡ false). rw (if_false {A = Option ℕ} _ _ e) (omega arith))
 
 -- ---- the row of the next number
 
@@ -124,7 +116,7 @@ module _ (form : ℕ) (l : Line) (ls : List Line) (is_plain : key_of l ≡ plain
     unfolding values_from
     sparse_values r c = if_false _ _ plain_not_row ∙ if_false _ _ (not_not_via (eq-eqb _ _ is_plain)) ∙ if_true _ _ (eq-eqb _ _ is_sparse)
 
-    pub sparse_greatest : greatest_in form (l ∷ ls) ≡ max (whole_of (first_of (words l.content))).value (greatest_in form ls)
+    pub sparse_greatest : greatest_in form (l ∷ ls) ≡ max (unwrap_or (whole_of (first_of (words l.content))) 0) (greatest_in form ls)
     unfolding greatest_in named_by
     sparse_greatest =
         ap (λ (n : ℕ). max n (greatest_in form ls))

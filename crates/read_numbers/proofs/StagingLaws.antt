@@ -1,5 +1,6 @@
 -- Laws of one line that is staged: its numbers are stored as the document says, whatever lines come after it.
 -- Assumes nothing.
+use Rattle.std.proofs.Common.{is_some, unwrap_or, Option, None, Some, Ok, Err, is_err}
 use mathlib.Core.Path.{◌≡◌, refl, sym, ◌∙◌, ap}
 use mathlib.Core.Bool.{Bool, true, false, not, true≢false}
 use mathlib.Core.List.{List, [], ◌∷◌, ◌++◌, append_assoc}
@@ -28,24 +29,19 @@ use Rattle.base.proofs.RunLaws.{run_ends}
 use Rattle.lex_line.specs.Way.LineEnds.{line_at, content_at}
 use Rattle.lex_line.specs.Words.{words, first_of, second_of}
 use Rattle.lex_line.specs.Lines.{comment_byte}
-use Rattle.lex_number.specs.Number.{is_sign, number_of, is_formed, is_bounded, word_in}
+use Rattle.lex_number.specs.Number.{is_sign, number_of, is_formed, is_bounded, word_in, Number}
 use Rattle.lex_number.specs.Integer.{whole_of, is_whole_within}
 use Rattle.lex_number.specs.Way.In.{is_word, is_spelling, is_good_number, number_in}
-use Rattle.lex_number.specs.declared.Number.{Number}
-use Rattle.lex_number.specs.declared.Number.TheVariants as number
+use Rattle.lex_number.specs.declared.NumberError.TheVariants.{Malformed, Range}
 use Rattle.lex_number.specs.declared.NumberAt.{NumberAt}
-use Rattle.lex_number.specs.declared.Whole.{Whole}
-use Rattle.lex_number.proofs.IntegerLaws.{whole_within}
 use Rattle.line_matrix.specs.Matrix.{number_check, are_formed, are_bounded, numbers_line, sparse_line, data_line_of}
 use Rattle.line_matrix.specs.declared.DataLine.{DataLine}
 use Rattle.doc.specs.Lines.{Line, plain, key_of}
 use Rattle.doc.specs.Document.{next_row, numbers_at, sparse_at, values_from, bandwidth_in, greatest_in}
 use Rattle.read_numbers.specs.declared.Cursor.{Cursor}
-use Rattle.read_numbers.specs.declared.First.{First}
 use Rattle.read_numbers.specs.declared.Staging.{Staging}
 use Rattle.read_numbers.specs.declared.Numbers.{Numbers}
 use Rattle.read_numbers.specs.declared.Pair.{Pair}
-use Rattle.read_numbers.specs.Way.Told.{told_or}
 use Rattle.read_numbers.specs.Way.Numbers.{most_given, value_of, row_after, Points, PutsValue, Movable, PutsNumber, passed_by}
 use Rattle.read_numbers.specs.Way.Staging.{HeldValues, BoundedStaging, Adds, BrokenData, moved_to, named_to, StagesNumbers, StagesPair}
 use Rattle.read_numbers.specs.Way.Steps.{numbers_result, Stored, Stores, pair_of}
@@ -78,8 +74,8 @@ module _ (table : List ℕ) (values : ℕ) (table' : List ℕ) (vs : List Value)
             stored whole (values_from form b.row b.column ls ++ rest)
             (held_same value_words value_width whole table values _ h _
             (ap (λ (x : List Value). x ++ rest) (more ls) ∙ append_assoc vs (values_from form b.row b.column ls) rest));
-        bandwidth = λ (ls : List Line). ap (λ (f : First). told_or f (bandwidth_in ls)) told
-            ∙ ap (told_or a.bandwidth) (sym (plain_bandwidth form l ls is_plain));
+        bandwidth = λ (ls : List Line). ap (λ (f : Option ℕ). unwrap_or f (bandwidth_in ls)) told
+            ∙ ap (unwrap_or a.bandwidth) (sym (plain_bandwidth form l ls is_plain));
         greatest = greatest;
         bounded = bounded;
       }
@@ -182,22 +178,31 @@ none_bounded : are_bounded [] ≡ true
 unfolding are_bounded
 none_bounded = refl
 
+-- a number is an error or within its bounds
+error_told : (n : Number) (error : Bool) → error ≡ is_err n → error ≡ true → is_good_number n ≡ false
+error_told (Ok w) error told e = absurd (true≢false (sym e ∙ told))
+error_told (Err why) error told e = refl
+
+value_told : (n : Number) (error : Bool) → error ≡ is_err n → error ≡ false → is_good_number n ≡ true
+value_told (Ok w) error told e = refl
+value_told (Err why) error told e = absurd (true≢false (sym told ∙ e))
+
 value_formed : (n : Number) → is_good_number n ≡ true → is_formed n ≡ true
-value_formed (number.Value w) e = refl
-value_formed number.Malformed e = e
-value_formed number.Range e = refl
+value_formed (Ok w) e = refl
+value_formed (Err Malformed) e = e
+value_formed (Err Range) e = refl
 
 value_bounded : (n : Number) → is_good_number n ≡ true → is_bounded n ≡ true
-value_bounded (number.Value w) e = refl
-value_bounded number.Malformed e = refl
-value_bounded number.Range e = e
+value_bounded (Ok w) e = refl
+value_bounded (Err Malformed) e = refl
+value_bounded (Err Range) e = e
 
 -- a word that is no value: the line is not formed, or not within its bounds
 not_value : (n : Number) → is_good_number n ≡ false → both (is_formed n) (is_bounded n) ≡ false
 unfolding both
-not_value (number.Value w) e = absurd (true≢false e)
-not_value number.Malformed e = refl
-not_value number.Range e = refl
+not_value (Ok w) e = absurd (true≢false e)
+not_value (Err Malformed) e = refl
+not_value (Err Range) e = refl
 
 both_down : (a b c d : Bool) → both a c ≡ false → both (both a b) (both c d) ≡ false
 unfolding both
@@ -339,9 +344,9 @@ module _ (form : ℕ) (t : List ℕ) (from : ℕ) (table₀ : List ℕ) (values 
           let p : c.count + from ≤ at = left.taken in
           record { row_few = omega arith; column_few = omega arith; count_few = omega arith }
 
-      module _ (value : Bool) (value_told : value ≡ is_good_number read.number) where
+      module _ (error : Bool) (told_error : error ≡ is_err read.number) where
         -- a word that is no value
-        pub left_broken : not value ≡ true → (r : Numbers) → r ≡ numbers_result false c start → Stores form t from table₀ values row column table r
+        pub left_broken : error ≡ true → (r : Numbers) → r ≡ numbers_result false c start → Stores form t from table₀ values row column table r
         unfolding numbers_result
         left_broken bad r e =
             rw e
@@ -352,12 +357,12 @@ module _ (form : ℕ) (t : List ℕ) (from : ℕ) (table₀ : List ℕ) (values 
               broken = λ (w : false ≡ false).
                   rw (sym left.formed, sym left.bounded, here)
                   (not_formed_on word (words (content_at t read.end))
-                  (rw number_is at (not_value read.number (sym value_told ∙ not-true value bad))));
+                  (rw number_is at (not_value read.number (error_told read.number error told_error bad))));
             })
 
-        module _ (fine : not value ≡ false) (c' : Cursor) (table' : List ℕ) (put : PutsNumber form read.number table c c' table') where
+        module _ (fine : error ≡ false) (c' : Cursor) (table' : List ℕ) (put : PutsNumber form read.number table c c' table') where
           is_value_lem : is_good_number read.number ≡ true
-          is_value_lem = sym value_told ∙ not-false value fine
+          is_value_lem = value_told read.number error told_error fine
 
           one_held : (whole rest : List Value) →
               HeldValues whole table₀ values (numbers_at form row column (words (content_at t from)) ++ rest) →
@@ -462,10 +467,10 @@ module _ (form : ℕ) (t : List ℕ) (from : ℕ) (table₀ : List ℕ) (values 
     pub passes_done : not there ≡ true → (r : Numbers) → r ≡ numbers_result true c start → Stores form t from table₀ values row column table r
     passes_done tested r e = left_done form t from table₀ values row column at c table left_here start begins there told_there tested r e
 
-    pub passes_broken : not there ≡ false → (read : NumberAt) → read ≡ number_in comment_byte t start → (value : Bool) → value ≡ is_good_number read.number →
-        not value ≡ true → (r : Numbers) → r ≡ numbers_result false c start → Stores form t from table₀ values row column table r
-    passes_broken tested read told value value_told bad r e =
-        left_broken form t from table₀ values row column at c table left_here start begins there told_there tested read told value value_told bad r e
+    pub passes_broken : not there ≡ false → (read : NumberAt) → read ≡ number_in comment_byte t start → (error : Bool) → error ≡ is_err read.number →
+        error ≡ true → (r : Numbers) → r ≡ numbers_result false c start → Stores form t from table₀ values row column table r
+    passes_broken tested read told error told_error bad r e =
+        left_broken form t from table₀ values row column at c table left_here start begins there told_there tested read told error told_error bad r e
 
 module _ (form : ℕ) (t : List ℕ) (at₀ : ℕ) (c₀ : Cursor) (at : ℕ) (c : Cursor) (passes : Passes form t at₀ c₀ at c) (start : ℕ)
     (begins : start ≡ run_end is_blank t at) (there : Bool)
@@ -509,13 +514,13 @@ module _ (form : ℕ) (t : List ℕ) (at₀ : ℕ) (c₀ : Cursor) (at : ℕ) (c
           count = λ (g : read.end < length t). omega arith;
         }
 
-    pub passes_on : (value : Bool) → value ≡ is_good_number read.number → not value ≡ false → (c' : Cursor) → c' ≡ passed_by form c → Passes form t at₀ c₀ read.end c'
-    passes_on value value_told fine c' e =
+    pub passes_on : (error : Bool) → error ≡ is_err read.number → error ≡ false → (c' : Cursor) → c' ≡ passed_by form c → Passes form t at₀ c₀ read.end c'
+    passes_on error told_error fine c' e =
         rw e
         (record {
           on = λ from table₀ table values row column left full.
               left_on form t from table₀ values row column at c table (passes.on from table₀ table values row column left full) start begins there told_there
-              tested read told value value_told fine (passed_by form c) table (number_passed form read.number table c (rw passes.stays full));
+              tested read told error told_error fine (passed_by form c) table (number_passed form read.number table c (rw passes.stays full));
           stays = passes.stays;
           countable = next_countable;
         })
@@ -615,7 +620,7 @@ unstaged t here table values row table' long broken end =
 line_bad :
     (content : List ℕ) (ws : List (List ℕ)) → words content ≡ ws →
     (length ws ≡ 2 →
-    both (both (whole_of (first_of ws)).formed (number_check (second_of ws)).formed) (both (is_whole_within 1 most_conductors (whole_of (first_of ws))) (number_check (second_of ws)).bounded) ≡ false) →
+    both (both (is_some (whole_of (first_of ws))) (number_check (second_of ws)).formed) (both (is_whole_within 1 most_conductors (whole_of (first_of ws))) (number_check (second_of ws)).bounded) ≡ false) →
     BrokenData (data_line_of sparse content)
 unfolding data_line_of sparse_line
 line_bad content ws are bad =
@@ -641,8 +646,8 @@ both_last true true false d e = refl
 both_last true true true false e = refl
 both_last true true true true e = absurd (true≢false e)
 
-last_bad : (column : Whole) (ws : List (List ℕ)) → suc (length ws) ≡ 2 → (length ws ≡ 1 → both (are_formed ws) (are_bounded ws) ≡ false) →
-    both (both column.formed (number_check (first_of ws)).formed) (both (is_whole_within 1 most_conductors column) (number_check (first_of ws)).bounded) ≡ false
+last_bad : (column : Option ℕ) (ws : List (List ℕ)) → suc (length ws) ≡ 2 → (length ws ≡ 1 → both (are_formed ws) (are_bounded ws) ≡ false) →
+    both (both (is_some column) (number_check (first_of ws)).formed) (both (is_whole_within 1 most_conductors column) (number_check (first_of ws)).bounded) ≡ false
 unfolding are_formed are_bounded
 last_bad column [] e b = absurd (let z : 1 ≡ 2 = e in omega arith)
 last_bad column (w ∷ []) e b = both_last _ (number_check w).formed _ (number_check w).bounded (b refl)
@@ -662,140 +667,144 @@ module _ (t : List ℕ) (here start : ℕ) (begins : start ≡ run_end is_blank 
   pub word_starts : start ≤ end
   word_starts = omega arith
 
-  module _ (part : List ℕ) (cut : part ≡ take (end - start) (drop start t)) (column : Whole) (is_column : column ≡ whole_of part) where
-    pub column_few : (values : ℕ) → column.value ≤ most_given + values
-    column_few values = let h : column.value < most_given = rw is_column (whole_below part) in omega arith
-
+  module _ (part : List ℕ) (cut : part ≡ take (end - start) (drop start t)) where
     -- its first word is the column
     behind_column : words (content_at t here) ≡ part ∷ words (content_at t end)
     behind_column = one_word t here start begins stands_there end ends ∙ ap (λ (w : List ℕ). w ∷ words (content_at t end)) (sym cut)
 
-    column_bad : both column.formed (is_whole_within 1 most_conductors column) ≡ false → BrokenData (data_line_of sparse (content_at t here))
+    column_bad : both (is_some (whole_of part)) (is_whole_within 1 most_conductors (whole_of part)) ≡ false → BrokenData (data_line_of sparse (content_at t here))
     column_bad bad =
         line_bad (content_at t here) (part ∷ words (content_at t end)) behind_column
-        (λ (e : length (part ∷ words (content_at t end)) ≡ 2). rw (sym is_column) (both_down column.formed _ (is_whole_within 1 most_conductors column) _ bad))
+        (λ (e : length (part ∷ words (content_at t end)) ≡ 2). both_down (is_some (whole_of part)) _ (is_whole_within 1 most_conductors (whole_of part)) _ bad)
 
-    pub column_unformed : not column.formed ≡ true → (table : List ℕ) (values row stop : ℕ) (r : Pair) → r ≡ record { staged = false; column = 0; end = stop } →
+    pub column_unformed : None ≡ whole_of part → (table : List ℕ) (values row stop : ℕ) (r : Pair) → r ≡ record { staged = false; column = 0; end = stop } →
         StagesPair t here table values row table r
-    column_unformed bad table values row stop r e =
-        rw e (unstaged t here table values row table refl (column_bad (both_not_left _ _ (not-true column.formed bad))) stop)
+    column_unformed none table values row stop r e =
+        rw e (unstaged t here table values row table refl (column_bad (both_not_left _ _ (ap is_some (sym none)))) stop)
 
-    -- an integer is within its bounds where its value is
-    within_is : not column.formed ≡ false → (fits : Bool) → fits ≡ within 1 most_conductors column.value → fits ≡ is_whole_within 1 most_conductors column
-    within_is formed fits told = told ∙ sym (whole_within 1 most_conductors column (not-false column.formed formed))
+    module _ (column : ℕ) (is_column : Some column ≡ whole_of part) where
+      pub column_few : (values : ℕ) → column ≤ most_given + values
+      column_few values =
+          let h : unwrap_or (whole_of part) 0 < most_given = whole_below part in
+          let k : column < most_given = rw (← is_column) at h in
+          omega arith
 
-    pub column_unbounded : not column.formed ≡ false → (fits : Bool) → fits ≡ within 1 most_conductors column.value → not fits ≡ true → (table : List ℕ) (values row stop : ℕ) (r : Pair) →
-        r ≡ record { staged = false; column = 0; end = stop } → StagesPair t here table values row table r
-    column_unbounded formed fits told bad table values row stop r e =
-        rw e (unstaged t here table values row table refl (column_bad (both_not_right _ _ (sym (within_is formed fits told) ∙ not-true fits bad))) stop)
+      -- the integer is within its bounds where its value is
+      within_is : (fits : Bool) → fits ≡ within 1 most_conductors column → fits ≡ is_whole_within 1 most_conductors (whole_of part)
+      within_is fits told = rw (← is_column) told
 
-    module _ (table : List ℕ) (values row : ℕ) (table' : List ℕ) (n : Numbers)
-        (stores : Stores sparse t end table values row column.value table' n) where
-      module _ (staged : n.staged ≡ true) (one : n.count ≡ 1) where
-        behind : Stored sparse (words (content_at t end)) table values row column.value table' n
-        behind = stores.told staged
+      pub column_unbounded : (fits : Bool) → fits ≡ within 1 most_conductors column → not fits ≡ true → (table : List ℕ) (values row stop : ℕ) (r : Pair) →
+          r ≡ record { staged = false; column = 0; end = stop } → StagesPair t here table values row table r
+      column_unbounded fits told bad table values row stop r e =
+          rw e (unstaged t here table values row table refl (column_bad (both_not_right _ _ (sym (within_is fits told) ∙ not-true fits bad))) stop)
 
-        single : words (content_at t end) ≡ first_of (words (content_at t end)) ∷ []
-        single = alone (words (content_at t end)) (sym behind.counted ∙ one)
-          where
-            alone : (ws : List (List ℕ)) → length ws ≡ 1 → ws ≡ first_of ws ∷ []
-            alone [] e = absurd (let z : 0 ≡ 1 = e in omega arith)
-            alone (w ∷ []) e = refl
-            alone (w ∷ v ∷ ws) e = absurd (let z : suc (suc (length ws)) ≡ 1 = e in omega arith)
+      module _ (table : List ℕ) (values row : ℕ) (table' : List ℕ) (n : Numbers)
+          (stores : Stores sparse t end table values row column table' n) where
+        module _ (staged : n.staged ≡ true) (one : n.count ≡ 1) where
+          behind : Stored sparse (words (content_at t end)) table values row column table' n
+          behind = stores.told staged
 
-        abbrev value : List ℕ
-        value = first_of (words (content_at t end))
+          single : words (content_at t end) ≡ first_of (words (content_at t end)) ∷ []
+          single = alone (words (content_at t end)) (sym behind.counted ∙ one)
+            where
+              alone : (ws : List (List ℕ)) → length ws ≡ 1 → ws ≡ first_of ws ∷ []
+              alone [] e = absurd (let z : 0 ≡ 1 = e in omega arith)
+              alone (w ∷ []) e = refl
+              alone (w ∷ v ∷ ws) e = absurd (let z : suc (suc (length ws)) ≡ 1 = e in omega arith)
 
-        two : words (content_at t here) ≡ part ∷ value ∷ []
-        two = behind_column ∙ ap (λ (ws : List (List ℕ)). part ∷ ws) single
+          abbrev value : List ℕ
+          value = first_of (words (content_at t end))
 
-        value_formed_here : (number_check value).formed ≡ true
-        unfolding are_formed
-        value_formed_here = both_first _ _ (sym (ap are_formed single) ∙ behind.formed)
+          two : words (content_at t here) ≡ part ∷ value ∷ []
+          two = behind_column ∙ ap (λ (ws : List (List ℕ)). part ∷ ws) single
 
-        value_bounded_here : (number_check value).bounded ≡ true
-        unfolding are_bounded
-        value_bounded_here = both_first _ _ (sym (ap are_bounded single) ∙ behind.bounded)
+          value_formed_here : (number_check value).formed ≡ true
+          unfolding are_formed
+          value_formed_here = both_first _ _ (sym (ap are_formed single) ∙ behind.formed)
 
-        pair_value : numbers_at sparse row column.value (words (content_at t end)) ≡ sparse_at row (words (content_at t here)) ∷ []
-        unfolding numbers_at sparse_at
-        pair_value = rw (single, two) (λ i. record { row = row; column = (is_column i).value; word = word_in (number_of value) } ∷ [])
+          value_bounded_here : (number_check value).bounded ≡ true
+          unfolding are_bounded
+          value_bounded_here = both_first _ _ (sym (ap are_bounded single) ∙ behind.bounded)
 
-        pair_held : (whole rest : List Value) → HeldValues whole table values ((sparse_at row (words (content_at t here)) ∷ []) ++ rest) →
-            HeldValues whole table' (values + 1) rest
-        pair_held whole rest h =
-            rw one at
-            (behind.held whole rest (held_same value_words value_width whole table values _ h _ (ap (λ (vs : List Value). vs ++ rest) (sym pair_value))))
+          pair_value : numbers_at sparse row column (words (content_at t end)) ≡ sparse_at row (words (content_at t here)) ∷ []
+          unfolding numbers_at sparse_at
+          pair_value = rw (single, two) (λ i. record { row = row; column = unwrap_or (is_column i) 0; word = word_in (number_of value) } ∷ [])
 
-        named_here : column.value ≡ (whole_of (first_of (words (content_at t here)))).value
-        named_here = rw two (ap (λ (w : Whole). w.value) is_column)
+          pair_held : (whole rest : List Value) → HeldValues whole table values ((sparse_at row (words (content_at t here)) ∷ []) ++ rest) →
+              HeldValues whole table' (values + 1) rest
+          pair_held whole rest h =
+              rw one at
+              (behind.held whole rest (held_same value_words value_width whole table values _ h _ (ap (λ (vs : List Value). vs ++ rest) (sym pair_value))))
 
-        pair_bounded : (a : Staging) → BoundedStaging a values → BoundedStaging (named_to column.value a) (values + 1)
-        pair_bounded a bound =
-            let f : a.row ≤ most_given + values = bound.row in
-            let g : a.column ≤ most_given + values = bound.column in
-            record { row = omega arith; column = omega arith }
+          named_here : column ≡ unwrap_or (whole_of (first_of (words (content_at t here)))) 0
+          named_here = rw two (ap (λ (w : Option ℕ). unwrap_or w 0) is_column)
 
-        pair_adds : (a : Staging) → BoundedStaging a values → a.row ≡ row → (l : Line) → l.content ≡ content_at t here → key_of l ≡ plain →
-            Adds sparse l table values a table' (values + 1) (named_to column.value a)
-        pair_adds a bound row_is l same is_plain =
-            added table values table' (sparse_at row (words (content_at t here)) ∷ []) 1 pair_held sparse a (named_to column.value a) refl
-            (pair_bounded a bound) l is_plain
-            (λ (ls : List Line). rw (sym row_is, sym same) (sparse_values sparse l ls is_plain refl a.row a.column))
-            (λ (ls : List Line).
-            most_of a.greatest column.value _ _ (greatest_in sparse ls)
-            (rw (named_here, sym same) (sparse_greatest sparse l ls is_plain refl)) refl)
+          pair_bounded : (a : Staging) → BoundedStaging a values → BoundedStaging (named_to column a) (values + 1)
+          pair_bounded a bound =
+              let f : a.row ≤ most_given + values = bound.row in
+              let g : a.column ≤ most_given + values = bound.column in
+              record { row = omega arith; column = omega arith }
 
-        module _ (formed : column.formed ≡ true) (bounded : is_whole_within 1 most_conductors column ≡ true) where
-          pair_line : record { numbers = 1; column = column.value; right = true; formed = true; bounded = true } ≡ data_line_of sparse (content_at t here)
-          unfolding data_line_of sparse_line
-          pair_line =
-              sym
-              (if_true _ _ (eq-eqb sparse sparse refl)
-              ∙ rw two
-              (if_true _ _ refl
-              ∙ rw (sym is_column)
-              (λ i.
-              record {
-                numbers = 1;
-                column = column.value;
-                right = true;
-                formed = both_true _ _ formed value_formed_here i;
-                bounded = both_true _ _ bounded value_bounded_here i;
-              })))
+          pair_adds : (a : Staging) → BoundedStaging a values → a.row ≡ row → (l : Line) → l.content ≡ content_at t here → key_of l ≡ plain →
+              Adds sparse l table values a table' (values + 1) (named_to column a)
+          pair_adds a bound row_is l same is_plain =
+              added table values table' (sparse_at row (words (content_at t here)) ∷ []) 1 pair_held sparse a (named_to column a) refl
+              (pair_bounded a bound) l is_plain
+              (λ (ls : List Line). rw (sym row_is, sym same) (sparse_values sparse l ls is_plain refl a.row a.column))
+              (λ (ls : List Line).
+              most_of a.greatest column _ _ (greatest_in sparse ls)
+              (rw (named_here, sym same) (sparse_greatest sparse l ls is_plain refl)) refl)
 
-          pair_staged : StagesPair t here table values row table' (record { staged = true; column = column.value; end = n.end })
-          pair_staged =
-              record {
-                long = stores.long;
-                ends = λ (w : true ≡ true). stores.ends staged ∙ same_end t here start begins stands_there end ends;
-                line_is = λ (w : true ≡ true). pair_line;
-                adds = λ (w : true ≡ true). pair_adds;
-                broken = λ (w : true ≡ false). absurd (true≢false w);
-              }
+          module _ (bounded : within 1 most_conductors column ≡ true) where
+            pair_line : record { numbers = 1; column = column; right = true; formed = true; bounded = true } ≡ data_line_of sparse (content_at t here)
+            unfolding data_line_of sparse_line
+            pair_line =
+                sym
+                (if_true _ _ (eq-eqb sparse sparse refl)
+                ∙ rw two
+                (if_true _ _ refl
+                ∙ rw (sym is_column)
+                (λ i.
+                record {
+                  numbers = 1;
+                  column = column;
+                  right = true;
+                  formed = both_true _ _ refl value_formed_here i;
+                  bounded = both_true _ _ bounded value_bounded_here i;
+                })))
 
-      -- the words behind the column are not one value
-      value_bad : (length (words (content_at t end)) ≡ 1 → both (are_formed (words (content_at t end))) (are_bounded (words (content_at t end))) ≡ false) →
-          StagesPair t here table values row table' (record { staged = false; column = 0; end = n.end })
-      value_bad bad =
-          unstaged t here table values row table' stores.long
-          (line_bad (content_at t here) (part ∷ words (content_at t end)) behind_column
-          (λ (e : suc (length (words (content_at t end))) ≡ 2). last_bad (whole_of part) (words (content_at t end)) e bad)) n.end
+            pair_staged : StagesPair t here table values row table' (record { staged = true; column = column; end = n.end })
+            pair_staged =
+                record {
+                  long = stores.long;
+                  ends = λ (w : true ≡ true). stores.ends staged ∙ same_end t here start begins stands_there end ends;
+                  line_is = λ (w : true ≡ true). pair_line;
+                  adds = λ (w : true ≡ true). pair_adds;
+                  broken = λ (w : true ≡ false). absurd (true≢false w);
+                }
 
-      pair_lost : both n.staged (eqb n.count 1) ≡ false → StagesPair t here table values row table' (record { staged = false; column = 0; end = n.end })
-      pair_lost lost =
-          by_cases _ n.staged
-          (λ (w : n.staged ≡ true).
-          value_bad (λ (e : length (words (content_at t end)) ≡ 1).
-          absurd (true≢false (sym (both_true _ _ w (eq-eqb _ _ ((stores.told w).counted ∙ e))) ∙ lost))))
-          (λ (w : n.staged ≡ false). value_bad (λ (e : length (words (content_at t end)) ≡ 1). stores.broken w))
+        -- the words behind the column are not one value
+        value_bad : (length (words (content_at t end)) ≡ 1 → both (are_formed (words (content_at t end))) (are_bounded (words (content_at t end))) ≡ false) →
+            StagesPair t here table values row table' (record { staged = false; column = 0; end = n.end })
+        value_bad bad =
+            unstaged t here table values row table' stores.long
+            (line_bad (content_at t here) (part ∷ words (content_at t end)) behind_column
+            (λ (e : suc (length (words (content_at t end))) ≡ 2). last_bad (whole_of part) (words (content_at t end)) e bad)) n.end
 
-      pub pair_stages : not column.formed ≡ false → (fits : Bool) → fits ≡ within 1 most_conductors column.value → not fits ≡ false → (r : Pair) →
-          r ≡ pair_of column.value n → StagesPair t here table values row table' r
-      unfolding pair_of
-      pair_stages formed fits told tested r e =
-          rw e
-          (by_test (λ (x : Pair). StagesPair t here table values row table' x) (both n.staged (eqb n.count 1)) _ _
-          (λ (w : both n.staged (eqb n.count 1) ≡ true).
-          pair_staged (both_first _ _ w) (eqb-true _ _ (both_second _ _ w)) (not-false column.formed formed) (sym (within_is formed fits told) ∙ not-false fits tested))
-          (λ (w : both n.staged (eqb n.count 1) ≡ false). pair_lost w))
+        pair_lost : both n.staged (eqb n.count 1) ≡ false → StagesPair t here table values row table' (record { staged = false; column = 0; end = n.end })
+        pair_lost lost =
+            by_cases _ n.staged
+            (λ (w : n.staged ≡ true).
+            value_bad (λ (e : length (words (content_at t end)) ≡ 1).
+            absurd (true≢false (sym (both_true _ _ w (eq-eqb _ _ ((stores.told w).counted ∙ e))) ∙ lost))))
+            (λ (w : n.staged ≡ false). value_bad (λ (e : length (words (content_at t end)) ≡ 1). stores.broken w))
+
+        pub pair_stages : (fits : Bool) → fits ≡ within 1 most_conductors column → not fits ≡ false → (r : Pair) →
+            r ≡ pair_of column n → StagesPair t here table values row table' r
+        unfolding pair_of
+        pair_stages fits told tested r e =
+            rw e
+            (by_test (λ (x : Pair). StagesPair t here table values row table' x) (both n.staged (eqb n.count 1)) _ _
+            (λ (w : both n.staged (eqb n.count 1) ≡ true).
+            pair_staged (both_first _ _ w) (eqb-true _ _ (both_second _ _ w)) (sym told ∙ not-false fits tested))
+            (λ (w : both n.staged (eqb n.count 1) ≡ false). pair_lost w))

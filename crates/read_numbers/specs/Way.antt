@@ -1,4 +1,3 @@
-pub mod Told
 pub mod Numbers
 pub mod Staging
 pub mod Steps

@@ -8,22 +8,14 @@ ghost use Rattle.table_layout.specs.Layout.{value_width};
 ghost use Rattle.table_layout.specs.Codes.{sparse};
 ghost use Rattle.table_layout.specs.Bounds.{most_values};
 ghost use Rattle.doc.specs.Document.{next_row};
-ghost use Rattle.read_numbers.specs.Way.Told.{first_told, told_or};
 ghost use Rattle.read_numbers.specs.Way.Numbers.{most_given, Movable, PutsNumber, passed_by};
 ghost use Rattle.read_numbers.specs.Way.Staging.{StagesNumbers, StagesPair};
 ghost use Rattle.read_numbers.specs.Way.Steps.{Stores, numbers_result, pair_of};
 ghost use Rattle.lex_number.specs.Way.In.{number_in};
 ghost use Rattle.lex_line.specs.Lines.{comment_byte};
 
-use lex_number::{Number, NumberAt};
-use table_record::Value;
-
-// A value of which only the first one given counts: whether one is given yet, and which.
-#[derive(Clone, Copy)]
-pub struct First {
-    pub told: bool,
-    pub value: u64,
-}
+use lex_number::{NumberAt, NumberError};
+use table_record::{Value, Words};
 
 // Where the next number of a line goes: its row, its column, how many of the line come before it, and its position in
 // the table.
@@ -35,13 +27,13 @@ pub struct Cursor {
     pub place: usize,
 }
 
-// What the lines of a matrix have given so far: the row and column of the next number, the bandwidth, and the greatest
-// row or column that is named.
+// What the lines of a matrix have given so far: the row and column of the next number, the bandwidth, of which the first
+// one given counts, and the greatest row or column that is named.
 #[derive(Clone, Copy)]
 pub struct Staging {
     pub row: u64,
     pub column: u64,
-    pub bandwidth: First,
+    pub bandwidth: Option<u64>,
     pub greatest: u64,
 }
 
@@ -63,26 +55,6 @@ pub struct Pair {
     pub staged: bool,
     pub column: u64,
     pub end: usize,
-}
-
-// One more value is given: it counts only if none was given before.
-pub fn first_told(first: First, value: u64) -> First
-    ensures { result ≡ first_told first value }
-{
-    if first.told {
-        return first;
-    }
-    First { told: true, value }
-}
-
-// The value given, 0 if there is none.
-pub fn told_in(first: First) -> u64
-    ensures { result ≡ told_or first 0 }
-{
-    if first.told {
-        return first.value;
-    }
-    0
 }
 
 // Whether a table of `words` words has room for a value at position `place`.
@@ -107,7 +79,12 @@ fn next_row(form: u64, row: u64) -> u64
 }
 
 // Stores a number where the cursor is, and moves the cursor on.
-fn put_number(number: Number, form: u64, table: &mut [u64], cursor: Cursor) -> Cursor
+fn put_number(
+    number: Result<u64, NumberError>,
+    form: u64,
+    table: &mut [u64],
+    cursor: Cursor,
+) -> Cursor
     requires fact_1 { Movable cursor }
     requires fact_2 { cursor.place + value_width ≤ length table.old }
     ensures { PutsNumber form number table.old cursor result table.new }
@@ -117,9 +94,9 @@ fn put_number(number: Number, form: u64, table: &mut [u64], cursor: Cursor) -> C
     let value = Value {
         row,
         column,
-        word: lex_number::word_in(number),
+        word: number.unwrap_or(0),
     };
-    table_record::put_value_at(table, cursor.place, value);
+    value.put_at(table, cursor.place);
     Cursor {
         row: next_row(form, row),
         column: column + 1,
@@ -190,6 +167,7 @@ fn store_numbers(
         count: 0,
         place: table_layout::VALUE_WIDTH * (values as usize),
     };
+    // No for: each turn finds where the next word starts.
     while has_room(cursor.place, table.len()) {
         let start = base::past_blanks(text, at);
         if !lex_number::is_word_at(text, start, lex_line::COMMENT) {
@@ -197,7 +175,7 @@ fn store_numbers(
         }
         let read = lex_number::number_in(text, start, lex_line::COMMENT);
         let number = read.number;
-        if !lex_number::is_value(number) {
+        if number.is_err() {
             return numbers_of(false, cursor, start);
         }
         cursor = put_number(number, form, table, cursor);
@@ -210,7 +188,7 @@ fn store_numbers(
         }
         let read = plain_number(text, start);
         let number = read.number;
-        if !lex_number::is_value(number) {
+        if number.is_err() {
             return numbers_of(false, cursor, start);
         }
         cursor = pass_number(form, cursor);
@@ -275,11 +253,10 @@ pub fn read_pair(text: &[u8], here: usize, values: u64, table: &mut [u64], row: 
         return no_pair(start);
     }
     let end = lex_number::word_end(text, start, lex_line::COMMENT);
-    let column = lex_number::read_integer(&text[start..end]);
-    if !column.formed {
+    let Some(column) = lex_number::read_integer(&text[start..end]) else {
         return no_pair(start);
-    }
-    if !lex_number::is_within(1, table_layout::bound::CONDUCTORS, column.value) {
+    };
+    if !lex_number::is_within(1, table_layout::bound::CONDUCTORS, column) {
         return no_pair(start);
     }
     let numbers = store_numbers(
@@ -289,7 +266,7 @@ pub fn read_pair(text: &[u8], here: usize, values: u64, table: &mut [u64], row: 
         values,
         table,
         row,
-        column.value,
+        column,
     );
-    pair_of(column.value, numbers)
+    pair_of(column, numbers)
 }

@@ -160,7 +160,7 @@ fn path_line(
         };
     }
     let step = step_of(text, at, line, ends, parts);
-    table_record::stage::put_step(stage, steps, step);
+    table_record::stage::put(stage, steps, step);
     Stepped {
         taken: true,
         rule: 0,
@@ -224,6 +224,7 @@ fn pass_path(
         path,
         steps,
     };
+    // No for: each turn finds where the next line starts.
     while here < text.len() {
         let ends = lex_line::line_at(text, here, lex_line::COMMENT);
         let next = take_step(text, here, line_here, ends, part.path, part.steps, stage);

@@ -1,6 +1,7 @@
 -- What is left of sections and matrices, line by line: a line outside sections, one that begins a section, its method, one
 -- that opens a matrix, the lines of a matrix, and one that ends a section.
 -- Assumes nothing.
+use Rattle.std.proofs.Common.{Option, None, unwrap_or}
 use mathlib.Core.Path.{◌≡◌, refl, sym, ◌∙◌, ap}
 use mathlib.Core.Bool.{true, false, true≢false}
 use mathlib.Core.List.{List, [], ◌∷◌, ◌++◌, append-nil}
@@ -50,10 +51,8 @@ use Rattle.doc.proofs.PassLaws.{section_blocks, matrices_joined}
 use Rattle.doc.proofs.GatherLaws.{up_in, up_none, up_out, gather_none, gather_more, gather_quiet}
 use Rattle.doc.proofs.SpanLaws.{section_head_lem, matrix_inside, matrices_skip, matrices_open, end_opens, method_opens}
 use Rattle.doc.proofs.SectionLaws.{section_open, section_skip}
-use Rattle.read_numbers.specs.Way.Told.{untold, told_or}
-use Rattle.read_numbers.specs.declared.First.{First}
 use Rattle.read_numbers.specs.Way.Staging.{HeldValues}
-use Rattle.read_numbers.proofs.GivenLaws.{told_untold, told_first}
+use Rattle.read_numbers.proofs.GivenLaws.{told_first}
 use Rattle.read_sections.specs.declared.OpenSection.{OpenSection}
 use Rattle.read_sections.specs.Way.Open.{
   kept_or,
@@ -128,7 +127,7 @@ module _ (ss : List Section) (o o' : OpenSection) (w w' : Reached) (ls ls' : Lis
 -- the record of the open section, and the records of the sections after it
 abbrev shown : OpenSection → ℕ → ℕ → List Matrix → List Section → List SectionRecord
 shown o method first own later =
-    record_with o method (told_or o.conductors (conductors_of own)) (λ (k : ℕ). kept_or (get_or o.kinds k 0) (index_of_kind k first own))
+    record_with o method (unwrap_or o.conductors (conductors_of own)) (λ (k : ℕ). kept_or (get_or o.kinds k 0) (index_of_kind k first own))
     ∷ section_records (first + length own) later
 
 module _ (o : OpenSection) (w : Reached) (ls : List Line) where
@@ -260,7 +259,7 @@ module _ (o : OpenSection) (m f c k v n : ℕ) (l : Line) (ls : List Line) where
 
   -- a section begins
   module _ (ss : List Section) (table sections matrices : List ℕ) (place_is : l.place ≡ place.after) (key_is : key_of l ≡ begin_icm_section) (o' : OpenSection)
-      (start_is : o'.start ≡ (argument_of l).start) (size_is : o'.size ≡ length (argument_of l).text) (untold_is : o'.conductors ≡ untold)
+      (start_is : o'.start ≡ (argument_of l).start) (size_is : o'.size ≡ length (argument_of l).text) (untold_is : o'.conductors ≡ None)
       (kinds_are : o'.kinds ≡ replicate matrix_kinds 0) where
     begins : opens_section l ≡ true
     unfolding opens_section
@@ -276,12 +275,12 @@ module _ (o : OpenSection) (m f c k v n : ℕ) (l : Line) (ls : List Line) where
 
     begun_record : (first : ℕ) →
         section_record first (section_of l (up_to in_section ls))
-        ≡ record_with o' (method_in (up_to in_section ls)) (told_or o'.conductors (conductors_of (gather matrix_at (up_to in_section ls))))
+        ≡ record_with o' (method_in (up_to in_section ls)) (unwrap_or o'.conductors (conductors_of (gather matrix_at (up_to in_section ls))))
         (λ (j : ℕ). kept_or (get_or o'.kinds j 0) (index_of_kind j first (gather matrix_at (up_to in_section ls))))
     unfolding section_record section_of
     begun_record first =
         let ms : List Matrix = gather matrix_at (up_to in_section ls) in
-        let told : conductors_of ms ≡ told_or o'.conductors (conductors_of ms) = sym (ap (λ (x : First). told_or x (conductors_of ms)) untold_is ∙ told_untold (conductors_of ms)) in
+        let told : conductors_of ms ≡ unwrap_or o'.conductors (conductors_of ms) = sym (ap (λ (x : Option ℕ). unwrap_or x (conductors_of ms)) untold_is) in
         let kept : (j : ℕ) → j < matrix_kinds → index_of_kind j first ms ≡ kept_or (get_or o'.kinds j 0) (index_of_kind j first ms) =
         λ (j : ℕ) (h : j < matrix_kinds). sym (ap (λ (x : List ℕ). kept_or (get_or x j 0) (index_of_kind j first ms)) kinds_are ∙ none_kept j (index_of_kind j first ms) h) in
         λ i.
@@ -405,9 +404,9 @@ module _ (o : OpenSection) (m f c k v n : ℕ) (l : Line) (ls : List Line) where
           own_away o (at place.section) (l ∷ ls) refl ∙ matrices_skip l ls in_section_lem (end_opens l ends) ∙ ap (gather matrix_at) none ∙ gather_none matrix_at
 
       abbrev final : SectionRecord
-      final = record_with o m (told_or o.conductors 0) (λ (j : ℕ). get_or o.kinds j 0)
+      final = record_with o m (unwrap_or o.conductors 0) (λ (j : ℕ). get_or o.kinds j 0)
 
-      final_is : record_with o m (told_or o.conductors (conductors_of [])) (λ (j : ℕ). kept_or (get_or o.kinds j 0) (index_of_kind j k [])) ≡ final
+      final_is : record_with o m (unwrap_or o.conductors (conductors_of [])) (λ (j : ℕ). kept_or (get_or o.kinds j 0) (index_of_kind j k [])) ≡ final
       unfolding index_of_kind
       final_is = record_same o o refl refl m m _ _ _ _ refl refl (λ (j : ℕ) (h : j < matrix_kinds). kept_none (get_or o.kinds j 0))
 
@@ -556,11 +555,11 @@ module _ (o : OpenSection) (m f c k v n : ℕ) (ls rest : List Line) (all : ls �
         unfolding section_with
         size_same = sym (ap (λ (x : OpenSection). x.size) section_is)
 
-        conductors_same : told_or o.conductors (conductors_of (open_matrix o w ls ∷ own)) ≡ told_or o'.conductors (conductors_of own)
+        conductors_same : unwrap_or o.conductors (conductors_of (open_matrix o w ls ∷ own)) ≡ unwrap_or o'.conductors (conductors_of own)
         unfolding section_with
         conductors_same =
-            ap (told_or o.conductors) (sym conductors_are) ∙ sym (told_first o.conductors _ (conductors_of own))
-            ∙ ap (λ (x : OpenSection). told_or x.conductors (conductors_of own)) (sym section_is)
+            ap (unwrap_or o.conductors) (sym conductors_are) ∙ sym (told_first o.conductors _ (conductors_of own))
+            ∙ ap (λ (x : OpenSection). unwrap_or x.conductors (conductors_of own)) (sym section_is)
 
         some : 1 ≤ k
         some = stands.opened refl
@@ -619,7 +618,7 @@ module _ (ss : List Section) (o : OpenSection) (p m f c k v n n' : ℕ) (away : 
   blank_left =
       λ i.
       (provided is_in_section p
-      then record_with o (method_left (on n) ls) (told_or o.conductors (conductors_of (blank_own i))) (λ (j : ℕ). kept_or (get_or o.kinds j 0) (index_of_kind j (closed_matrices (on n)) (blank_own i))) ∷ []
+      then record_with o (method_left (on n) ls) (unwrap_or o.conductors (conductors_of (blank_own i))) (λ (j : ℕ). kept_or (get_or o.kinds j 0) (index_of_kind j (closed_matrices (on n)) (blank_own i))) ∷ []
       else [])
       ++ section_records (closed_matrices (on n) + length (blank_own i)) (gather section_at ls)
 

@@ -1,8 +1,9 @@
 -- Laws of the open section as the code tells it: the section that a line opens, the matrix that it knows, and the records
 -- that are staged.
 -- Assumes nothing.
+use Rattle.std.proofs.Common.{None, Option, Some, unwrap_or}
+use Rattle.std.specs.Option.{option_or}
 use mathlib.Core.Path.{◌≡◌, sym, ◌∙◌, ap}
-use mathlib.Core.Bool.{false}
 use mathlib.Core.List.{List}
 use Prim.Native.Nat.{ℕ, ◌+◌, ◌-◌, ◌*◌, ◌≤◌}
 use mir.Syntax.{w64}
@@ -26,8 +27,6 @@ use Rattle.read_line.specs.Reading.{argument_from}
 use Rattle.doc.specs.Lines.{key_in, key_at, argument_in}
 use Rattle.doc.specs.Document.{kind_of}
 use Rattle.doc.proofs.ExtentLaws.{argument_in_line}
-use Rattle.read_numbers.specs.Way.Told.{first_told, told_or}
-use Rattle.read_numbers.specs.declared.First.{First}
 use Rattle.read_sections.specs.declared.OpenSection.{OpenSection}
 use Rattle.read_sections.specs.Way.Open.{kinds_with, beginning, with_kind, open_after, sections_after, matrix_closed, section_with}
 
@@ -41,11 +40,11 @@ module _ (at : ℕ) (content : List ℕ) (bracket : Bracket) (is_bracket : brack
         omega arith
 
     pub beginning_told : (name : List ℕ) → name ≡ argument_from content start →
-        record { start = at + start; size = length name; conductors = record { told = false; value = 0 }; kinds = replicate matrix_kinds 0; kind = 0 } ≡ beginning at content
+        record { start = at + start; size = length name; conductors = None; kinds = replicate matrix_kinds 0; kind = 0 } ≡ beginning at content
     beginning_told name is_name =
         let e : start ≡ argument_in (bracket_of content) = is_start ∙ ap argument_in is_bracket in
         let n : length name ≡ length (argument_from content (argument_in (bracket_of content))) = ap length (is_name ∙ ap (argument_from content) e) in
-        λ i. record { start = at + e i; size = n i; conductors = record { told = false; value = 0 }; kinds = replicate matrix_kinds 0; kind = 0 }
+        λ i. record { start = at + e i; size = n i; conductors = None; kinds = replicate matrix_kinds 0; kind = 0 }
 
   module _ (before after : ℕ) (o : OpenSection) where
     pub after_matrix : after ≡ place.matrix → (key : ℕ) → key ≡ key_in bracket → (kind : ℕ) → kind ≡ kind_of key →
@@ -81,7 +80,7 @@ module _ (o : OpenSection) (s : State) (before after : ℕ) (sections : List ℕ
     sections_kept e = sym (if_false _ _ (both_not_right _ _ (not_not_via (eq-eqb _ _ e))))
 
     pub sections_closed :
-        (before ≡ place.after → ⊥) → (conductors : ℕ) → conductors ≡ told_or o.conductors 0 → (index : ℕ) → index ≡ s.counts.sections - 1 → (sections' : List ℕ) →
+        (before ≡ place.after → ⊥) → (conductors : ℕ) → conductors ≡ unwrap_or o.conductors 0 → (index : ℕ) → index ≡ s.counts.sections - 1 → (sections' : List ℕ) →
         sections'
         ≡ put_at (section_width * index)
         (section_words
@@ -117,7 +116,7 @@ module _ (o : OpenSection) (s : State) (before after : ℕ) (sections : List ℕ
 -- ---- a matrix that closes
 
 pub section_told :
-    (conductors index : ℕ) (o : OpenSection) (c : First) → c ≡ first_told o.conductors conductors → (kinds : List ℕ) → kinds ≡ kinds_with o.kinds o.kind index →
+    (conductors index : ℕ) (o : OpenSection) (c : Option ℕ) → c ≡ option_or o.conductors (Some conductors) → (kinds : List ℕ) → kinds ≡ kinds_with o.kinds o.kind index →
     record { start = o.start; size = o.size; conductors = c; kinds = kinds; kind = o.kind } ≡ section_with conductors index o
 unfolding section_with
 section_told conductors index o c is_c kinds are = λ i. record { start = o.start; size = o.size; conductors = is_c i; kinds = are i; kind = o.kind }

@@ -1,6 +1,7 @@
 -- Laws of the walk over the lines behind the family: a line read alone, blank lines, a matrix with the line that ends it,
 -- and the walk as a whole.
 -- Assumes nothing.
+use Rattle.std.proofs.Common.{unwrap_or}
 use mathlib.Core.Path.{◌≡◌, refl, sym, ◌∙◌, ap}
 use mathlib.Core.Bool.{true, false, true≢false}
 use mathlib.Core.List.{List, [], ◌∷◌, ◌++◌}
@@ -35,7 +36,7 @@ use Rattle.read_line.specs.declared.LineRead.{LineRead}
 use Rattle.read_line.specs.declared.LineResult.{LineResult}
 use Rattle.read_line.specs.declared.Reading.{Reading}
 use Rattle.read_line.specs.declared.Reading.TheVariants.{Read, Refused}
-use Rattle.read_line.specs.declared.fast.Passing.{Passing}
+use Rattle.lex_line.specs.declared.fast.Past.{Past}
 use Rattle.read_line.proofs.ResultLaws.{refused_not_read, end_done}
 use Rattle.read_line.proofs.QuietLaws.{quiet_blank}
 use Rattle.read_line.proofs.CrossLaws.{crossed_reached}
@@ -47,7 +48,6 @@ use Rattle.doc.proofs.FoundLaws.{pass_over, stop_here, nothing_left, content_ord
 use Rattle.doc.proofs.GatherLaws.{up_out}
 use Rattle.doc.proofs.Goes.{Moved, line_moves, moves_place}
 use Rattle.doc.specs.Way.Idle.{SkipsIdle}
-use Rattle.read_numbers.specs.Way.Told.{told_or}
 use Rattle.read_numbers.specs.Way.Staging.{HeldValues}
 use Rattle.read_matrix.specs.Way.Body.{body_lines, Ends, Left, ResumesMatrix}
 use Rattle.read_matrix.specs.declared.BodyWalk.{BodyWalk}
@@ -260,7 +260,7 @@ module _ (t : List ℕ) (at line : ℕ) (s : State) (on : Onward t at line s) (l
   off_list : s.place ≡ place.list → ⊥
   off_list e = let behind : place.after ≤ s.place = late.from in omega arith
 
-  pub blank_continues : (r : Passing) → SkipsIdle t at line s.place r → at < r.at →
+  pub blank_continues : (r : Past) → SkipsIdle t at line s.place r → at < r.at →
       Continues t at line s.place s o table sections matrices (record { rule = 0; at = r.at; line = r.line; state = s; block = o }) table sections matrices
   blank_continues r skips h =
       let reached : ResumesText t at line s (record { rule = 0; at = r.at; line = r.line; state = s }) =
@@ -361,7 +361,7 @@ module _ (t : List ℕ) (at line : ℕ) (s : State) (on : Onward t at line s) (h
     module _ (h : w.at < length t) where
       module _ (kind : o.kind < matrix_kinds) (matrices' : List ℕ)
           (stored : matrices' ≡ put_at (matrix_width * (s.counts.matrices - 1))
-          (matrix_words (matrix_closed s.matrix.form (told_or w.part.staging.bandwidth 0) s.counts.values w.part.values line)) matrices)
+          (matrix_words (matrix_closed s.matrix.form (unwrap_or w.part.staging.bandwidth 0) s.counts.values w.part.values line)) matrices)
           (o' : OpenSection)
           (closed : o' ≡ section_with (provided eqb s.matrix.form diagonal then w.part.values - s.counts.values else w.part.staging.greatest) s.counts.matrices o) where
         module _ (r : SectionWalk) (sections' : List ℕ)
@@ -386,7 +386,7 @@ module _ (t : List ℕ) (at line : ℕ) (s : State) (on : Onward t at line s) (h
             lines_all : lines_at t line at place.matrix ≡ body_lines t line at ++ lines_at t w.line w.at place.matrix
             lines_all = left.rest (lines_at t w.line w.at place.matrix) (ap (λ (x : List Line). x ++ lines_at t w.line w.at place.matrix) (sym body_done))
 
-            bandwidth_done : told_or w.part.staging.bandwidth 0 ≡ bandwidth_in (body_lines t line at)
+            bandwidth_done : unwrap_or w.part.staging.bandwidth 0 ≡ bandwidth_in (body_lines t line at)
             unfolding bandwidth_in
             bandwidth_done = rw body_done at left.bandwidth
 
@@ -408,7 +408,7 @@ module _ (t : List ℕ) (at line : ℕ) (s : State) (on : Onward t at line s) (h
                 rw here
                 (stands_closed o s.section.method s.matrix.form s.counts.sections s.counts.matrices s.counts.values line (lines_at t line at place.matrix)
                 (lines_at t w.line w.at place.matrix) lines_all ss table sections matrices table' w.part.values held_done (rw here at g)
-                (told_or w.part.staging.bandwidth 0) w.part.staging.greatest bandwidth_done greatest_done kind o' closed matrices' stored w.part.matrix.form w.line)
+                (unwrap_or w.part.staging.bandwidth 0) w.part.staging.greatest bandwidth_done greatest_done kind o' closed matrices' stored w.part.matrix.form w.line)
 
           pub data_goes : Continues t at line s.place s o table sections matrices r table' sections' matrices'
           data_goes =

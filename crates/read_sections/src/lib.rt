@@ -1,7 +1,7 @@
 // The walk over the lines behind [End ICM Family]: it judges them, and stages their sections, matrices and values.
 #![tactic(auto)]
 
-ghost use Rattle.std.specs.Prelude.{◌≡◌, List, ℕ, ◌+◌, ◌-◌, ◌*◌, ◌≤◌, ◌<◌, length, drop, eqb};
+ghost use Rattle.std.specs.Prelude.{◌≡◌, List, ℕ, ◌+◌, ◌-◌, ◌*◌, ◌≤◌, ◌<◌, length, drop, eqb, unwrap_or};
 ghost use Rattle.base.specs.If.{provided◌then◌else◌};
 ghost use Rattle.lex_line.specs.Lines.{contents};
 ghost use Rattle.lex_line.specs.Way.LineEnds.{content_at};
@@ -17,17 +17,14 @@ ghost use Rattle.read_line.specs.Reading.{read_from};
 ghost use Rattle.read_line.specs.declared.Reading.TheVariants.{Read};
 ghost use Rattle.read_line.specs.Way.Walk.{Onward};
 ghost use Rattle.doc.specs.Document.{kind_of};
-ghost use Rattle.read_numbers.specs.Way.Told.{told_or};
 ghost use Rattle.read_matrix.specs.Way.Body.{Ends};
 ghost use Rattle.read_sections.specs.Way.Open.{kinds_with, no_section, beginning, open_after, sections_after, matrix_closed, section_with};
 ghost use Rattle.read_sections.specs.Way.Sections.{SectionsStaged, Late, outside_matrix, EndsKeyed, Continues};
 
 use lex_keyword::Bracket;
 use line_keyword::State;
-use read_line::fast::Passing;
 use read_line::{Reading, Walk};
 use read_matrix::BodyWalk;
-use read_numbers::First;
 use table_record::{MatrixRecord, SectionRecord};
 
 // How many kinds of matrices there are.
@@ -39,7 +36,7 @@ const KINDS: usize = table_layout::code::MATRIX_KINDS as usize;
 pub struct OpenSection {
     pub start: u64,
     pub size: u64,
-    pub conductors: First,
+    pub conductors: Option<u64>,
     pub kinds: [u64; KINDS],
     pub kind: u64,
 }
@@ -105,7 +102,7 @@ fn section_with(conductors: u64, index: u64, block: OpenSection) -> OpenSection
     OpenSection {
         start: block.start,
         size: block.size,
-        conductors: read_numbers::first_told(before, conductors),
+        conductors: before.or(Some(conductors)),
         kinds: with_kind(kept, block.kind as usize, index),
         kind: block.kind,
     }
@@ -116,14 +113,10 @@ fn section_with(conductors: u64, index: u64, block: OpenSection) -> OpenSection
 fn no_section() -> OpenSection
     ensures { result ≡ no_section }
 {
-    let untold = First {
-        told: false,
-        value: 0,
-    };
     OpenSection {
         start: 0,
         size: 0,
-        conductors: untold,
+        conductors: None,
         kinds: [0; KINDS],
         kind: 0,
     }
@@ -136,14 +129,10 @@ fn begin_section(content: &[u8], at: usize, bracket: Bracket) -> OpenSection
 {
     let start = doc::argument_in(bracket);
     let name = read_line::argument_of(content, start);
-    let untold = First {
-        told: false,
-        value: 0,
-    };
     OpenSection {
         start: (at + start) as u64,
         size: name.len() as u64,
-        conductors: untold,
+        conductors: None,
         kinds: [0; KINDS],
         kind: 0,
     }
@@ -193,13 +182,13 @@ fn close_section(s: State, before: u64, after: u64, block: OpenSection, sections
         start: block.start,
         size: block.size,
         method: section.method,
-        conductors: read_numbers::told_in(conductors),
+        conductors: conductors.unwrap_or(0),
         resistance: kinds[table_layout::code::RESISTANCE as usize],
         inductance: kinds[table_layout::code::INDUCTANCE as usize],
         conductance: kinds[table_layout::code::CONDUCTANCE as usize],
         capacitance: kinds[table_layout::code::CAPACITANCE as usize],
     };
-    table_record::stage::put_section(sections, base::minus(counts.sections, 1), own);
+    table_record::stage::put(sections, base::minus(counts.sections, 1), own);
 }
 
 // ---- lines
@@ -253,7 +242,7 @@ fn close_matrix(
 ) -> OpenSection
     requires { block.kind < matrix_kinds }
     ensures { (matrices.new ≡ put_at (matrix_width * (s.counts.matrices - 1))
-        (matrix_words (matrix_closed s.matrix.form (told_or walk.part.staging.bandwidth 0) s.counts.values walk.part.values line)) matrices.old)
+        (matrix_words (matrix_closed s.matrix.form (unwrap_or walk.part.staging.bandwidth 0) s.counts.values walk.part.values line)) matrices.old)
         × (result ≡ section_with (provided eqb s.matrix.form diagonal then walk.part.values - s.counts.values else walk.part.staging.greatest) s.counts.matrices block) }
 {
     let matrix = s.matrix;
@@ -264,12 +253,12 @@ fn close_matrix(
     let values = base::minus(part.values, counts.values);
     let own = MatrixRecord {
         form: matrix.form,
-        bandwidth: read_numbers::told_in(bandwidth),
+        bandwidth: bandwidth.unwrap_or(0),
         first: counts.values,
         values,
         line: base::minus(line, 1),
     };
-    table_record::stage::put_matrix(matrices, base::minus(counts.matrices, 1), own);
+    table_record::stage::put(matrices, base::minus(counts.matrices, 1), own);
     section_with(
         conductors_in(matrix.form, values, staging.greatest),
         counts.matrices,
@@ -378,6 +367,7 @@ pub fn read_sections(
     let start = walk.state;
     let mut s = start;
     let mut block = no_section();
+    // No for: each turn finds where the next lines start.
     while at < text.len() {
         let next = read_on(text, at, line, s, block, table, sections, matrices);
         if next.rule != 0 {

@@ -1,7 +1,7 @@
 -- The layout of an answer in the words that a host lends: this is the one place where it is written down. A truth value is 1
 -- or 0. The rest are the paper's words, as `answer_words`, `entry_words`, `walk_words` and `whole_words` give them for each case.
 -- Assumes nothing.
-use Rattle.std.specs.Prelude.{ℕ, Bool, List, [], ◌∷◌, length, replicate, leb}
+use Rattle.std.specs.Prelude.{ℕ, Bool, List, [], ◌∷◌, length, replicate, leb, Float, Option, Some, None}
 use Rattle.std.proofs.lemmas.List.Edits.{sets}
 use Rattle.std.specs.Float.{binary64}
 use Rattle.std.specs.Float.Ieee.{to_bits}
@@ -12,10 +12,6 @@ use Rattle.ask_walk.specs.Walk.{WalkWords}
 use Rattle.ask_walk.specs.declared.Place.{Place}
 use Rattle.table_record.specs.declared.StepRecord.{StepRecord}
 use Rattle.ask_entry.specs.WholeMatrix.{MatrixWords}
-use Rattle.out_double.specs.declared.Drawn.{Drawn}
-use Rattle.out_double.specs.declared.Drawn.TheVariants as drawn
-use Rattle.out_double.specs.declared.DrawnPair.{DrawnPair}
-use Rattle.out_double.specs.declared.DrawnPair.TheVariants as pair
 
 unfoldable pub flag : Bool → ℕ
 flag truth = provided truth then 1 else 0
@@ -42,14 +38,14 @@ unfoldable pub matrix_layout : MatrixWords → List ℕ
 matrix_layout m = flag m.found ∷ m.rule ∷ m.line ∷ m.conductors ∷ []
 
 -- double: drawn, 0 for the rule, 0 for the line, the double's bits; all 0 if the word is outside
-unfoldable pub double_layout : Drawn → List ℕ
-double_layout (drawn.Value x) = 1 ∷ 0 ∷ 0 ∷ to_bits binary64 x ∷ []
-double_layout drawn.Outside = 0 ∷ 0 ∷ 0 ∷ 0 ∷ []
+unfoldable pub double_layout : Option Float → List ℕ
+double_layout (Some x) = 1 ∷ 0 ∷ 0 ∷ to_bits binary64 x ∷ []
+double_layout None = 0 ∷ 0 ∷ 0 ∷ 0 ∷ []
 
 -- pair: the same, with the bits of two doubles: the frequency's and the value's
-unfoldable pub pair_layout : DrawnPair → List ℕ
-pair_layout (pair.Pair x y) = 1 ∷ 0 ∷ 0 ∷ to_bits binary64 x ∷ to_bits binary64 y ∷ []
-pair_layout pair.Outside = 0 ∷ 0 ∷ 0 ∷ 0 ∷ 0 ∷ []
+unfoldable pub pair_layout : Option (Float × Float) → List ℕ
+pair_layout (Some (x, y)) = 1 ∷ 0 ∷ 0 ∷ to_bits binary64 x ∷ to_bits binary64 y ∷ []
+pair_layout None = 0 ∷ 0 ∷ 0 ∷ 0 ∷ 0 ∷ []
 
 -- the lent words are enough for an answer of `many` words
 unfoldable pub is_room : ℕ → List ℕ → Bool

@@ -16,108 +16,93 @@ ghost use Rattle.out_double.specs.Double.{drawn_of, paired};
 ghost use Rattle.skumvari.specs.Words.{intake_layout, entry_layout, walk_layout, matrix_layout, double_layout, pair_layout, step_layout, is_room, answered, table_after, values_after};
 ghost use Rattle.skumvari.specs.Room.{most_words};
 
-use ask_entry::{Answer, WholeAnswer};
+use ask_entry::WholeAnswer;
 use ask_walk::{Place, Walked};
-use out_double::{Drawn, DrawnPair};
 use table_record::StepRecord;
 
-// How many words an answer has: that of the intake, an entry, a whole matrix or a double; that of a pair of doubles; that of a walk.
+// How many words an answer of the intake or of a whole matrix has.
 const ANSWER_WORDS: usize = 4;
 
-const PAIR_WORDS: usize = 5;
-
+// And how many that of a walk has.
 const WALK_WORDS: usize = 13;
 
 // ---- answers
 
-fn put_answer(answer: &mut [u64], given: u64, rule: u64, line: u64, word: u64) -> bool
-    ensures { (result ≡ is_room 4 answer.old) × (answer.new ≡ answered (given ∷ rule ∷ line ∷ word ∷ []) answer.old) }
+// Writes the words of an answer if there is room for all of them.
+fn put_answer(answer: &mut [u64], words: &[u64]) -> bool
+    ensures room { result ≡ is_room (length words.now) answer.old }
+    ensures written { answer.new ≡ answered words.now answer.old }
 {
-    if answer.len() < ANSWER_WORDS {
-        return false;
+    if words.len() <= answer.len() {
+        answer[..words.len()].copy_from_slice(words);
+        true
+    } else {
+        false
     }
-    base::put_words(answer, 0, &[given, rule, line, word]);
-    true
 }
 
-fn put_pair(answer: &mut [u64], given: u64, frequency: u64, value: u64) -> bool
-    ensures { (result ≡ is_room 5 answer.old) × (answer.new ≡ answered (given ∷ 0 ∷ 0 ∷ frequency ∷ value ∷ []) answer.old) }
+// The words of an answer of a walk.
+fn walk_words(given: u64, rule: u64, done: u64, step: StepRecord, next: Place) -> [u64; WALK_WORDS]
+    ensures { result ≡ given ∷ rule ∷ 0 ∷ done ∷ step_layout step next }
 {
-    if answer.len() < PAIR_WORDS {
-        return false;
-    }
-    base::put_words(answer, 0, &[given, 0, 0, frequency, value]);
-    true
-}
-
-fn put_walk(
-    answer: &mut [u64],
-    given: u64,
-    rule: u64,
-    done: u64,
-    step: StepRecord,
-    next: Place,
-) -> bool
-    ensures { (result ≡ is_room 13 answer.old) × (answer.new ≡ answered (given ∷ rule ∷ 0 ∷ done ∷ step_layout step next) answer.old) }
-{
-    if answer.len() < WALK_WORDS {
-        return false;
-    }
-    base::put_words(
-        answer,
+    [
+        given,
+        rule,
         0,
-        &[
-            given,
-            rule,
-            0,
-            done,
-            step.kind,
-            step.target,
-            step.amount,
-            step.side,
-            step.side_size,
-            step.line,
-            next.model,
-            next.step,
-            next.depth,
-        ],
-    );
-    true
+        done,
+        step.kind,
+        step.target,
+        step.amount,
+        step.side,
+        step.side_size,
+        step.line,
+        next.model,
+        next.step,
+        next.depth,
+    ]
 }
 
-fn say_entry(answer: &mut [u64], said: Answer) -> bool
-    ensures { (result ≡ is_room 4 answer.old) × (answer.new ≡ answered (entry_layout (entries.entry_words said)) answer.old) }
+fn say_entry(answer: &mut [u64], said: Result<u64, u64>) -> bool
+    ensures value { result ≡ is_room 4 answer.old }
+    ensures answer_after { answer.new ≡ answered (entry_layout (entries.entry_words said)) answer.old }
 {
     match said {
-        Answer::Found(word) => put_answer(answer, 1, 0, 0, word),
-        Answer::Refused(rule) => put_answer(answer, 0, rule, 0, 0),
+        Ok(word) => put_answer(answer, &[1, 0, 0, word]),
+        Err(rule) => put_answer(answer, &[0, rule, 0, 0]),
     }
 }
 
 fn say_walk(answer: &mut [u64], said: Walked) -> bool
-    ensures { (result ≡ is_room 13 answer.old) × (answer.new ≡ answered (walk_layout (walks.walk_words said)) answer.old) }
+    ensures value { result ≡ is_room 13 answer.old }
+    ensures answer_after { answer.new ≡ answered (walk_layout (walks.walk_words said)) answer.old }
 {
     match said {
-        Walked::Step(words, next) => put_walk(answer, 1, 0, 0, words, next),
-        Walked::Done(here) => put_walk(answer, 1, 0, 1, table_record::no_step(), here),
+        Walked::Step(words, next) => put_answer(answer, &walk_words(1, 0, 0, words, next)),
+        Walked::Done(here) => {
+            put_answer(answer, &walk_words(1, 0, 1, StepRecord::default(), here))
+        },
         Walked::Refused(rule) => {
             let nowhere = Place {
                 model: 0,
                 step: 0,
                 depth: 0,
             };
-            put_walk(answer, 0, rule, 0, table_record::no_step(), nowhere)
+            put_answer(
+                answer,
+                &walk_words(0, rule, 0, StepRecord::default(), nowhere),
+            )
         }
     }
 }
 
 fn say_matrix(answer: &mut [u64], said: WholeAnswer) -> bool
-    ensures { (result ≡ is_room 4 answer.old) × (answer.new ≡ answered (matrix_layout (whole_words said)) answer.old) }
+    ensures value { result ≡ is_room 4 answer.old }
+    ensures answer_after { answer.new ≡ answered (matrix_layout (whole_words said)) answer.old }
 {
     match said {
-        WholeAnswer::Found(conductors) => put_answer(answer, 1, 0, 0, conductors),
-        WholeAnswer::Short(conductors) => put_answer(answer, 0, 0, 0, conductors),
-        WholeAnswer::Refused(rule) => put_answer(answer, 0, rule, 0, 0),
+        WholeAnswer::Found(conductors) => put_answer(answer, &[1, 0, 0, conductors]),
+        WholeAnswer::Short(conductors) => put_answer(answer, &[0, 0, 0, conductors]),
+        WholeAnswer::Refused(rule) => put_answer(answer, &[0, rule, 0, 0]),
     }
 }
 
@@ -137,12 +122,12 @@ pub fn skumvari_intake(text: &[u8], table: &mut [u64], answer: &mut [u64]) -> bo
     ensures table_after { table.new ≡ table_after answer.old (table_for text.now (length table.old) (verdict_of text.now (length table.old))) table.old }
 {
     if answer.len() < ANSWER_WORDS {
-        base::zero_all(table);
+        table.fill(0);
         return false;
     }
     match intake::intake(text, table) {
-        intake::Answer::Accepted(used) => put_answer(answer, 1, 0, 0, used as u64),
-        intake::Answer::Refused(rule, line) => put_answer(answer, 0, rule, line, 0),
+        intake::Answer::Accepted(used) => put_answer(answer, &[1, 0, 0, used as u64]),
+        intake::Answer::Refused(rule, line) => put_answer(answer, &[0, rule, line, 0]),
     }
 }
 
@@ -214,8 +199,8 @@ pub fn skumvari_double(word: u64, answer: &mut [u64]) -> bool
     ensures answer_after { answer.new ≡ answered (double_layout (drawn_of word)) answer.old }
 {
     match out_double::double_of(word) {
-        Drawn::Value(x) => put_answer(answer, 1, 0, 0, f64::to_bits(x)),
-        Drawn::Outside => put_answer(answer, 0, 0, 0, 0),
+        Some(x) => put_answer(answer, &[1, 0, 0, x.to_bits()]),
+        None => put_answer(answer, &[0, 0, 0, 0]),
     }
 }
 
@@ -225,8 +210,8 @@ pub fn skumvari_pair(frequency: u64, value: u64, answer: &mut [u64]) -> bool
     ensures answer_after { answer.new ≡ answered (pair_layout (paired (drawn_of frequency) (drawn_of value))) answer.old }
 {
     match out_double::pair_of(frequency, value) {
-        DrawnPair::Pair(x, y) => put_pair(answer, 1, f64::to_bits(x), f64::to_bits(y)),
-        DrawnPair::Outside => put_pair(answer, 0, 0, 0),
+        Some((x, y)) => put_answer(answer, &[1, 0, 0, x.to_bits(), y.to_bits()]),
+        None => put_answer(answer, &[0, 0, 0, 0, 0]),
     }
 }
 

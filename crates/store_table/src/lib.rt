@@ -16,8 +16,8 @@ ghost use Rattle.store_table.specs.Way.Targets.{Inside, target_found, record_fou
 ghost use Rattle.store_table.specs.Way.Front.{part_words, step_stored, models_words, family_words, family_long, FamilyThere, sections_words, sections_long};
 
 use line_keyword::Counts;
-use table_record::StepRecord;
-use table_record::stage::StagedStep;
+use table_record::stage::{StagedModel, StagedStep};
+use table_record::{StepRecord, Words};
 
 // What a step points at: an end at the first map of its name that stands behind it, a section at the first section of its
 // name, wherever that stands.
@@ -80,7 +80,7 @@ fn put_step(
         side_size: step.side_size,
         line: step.line,
     };
-    table_record::put_step_at(table, at, own);
+    own.put_at(table, at);
 }
 
 // Stores all steps, the first at word `at`.
@@ -99,11 +99,9 @@ fn put_steps(
         × (staged_step_width * count ≤ length steps.now) × (at + step_width * count ≤ length table.old) }
     ensures { table.new ≡ sets table.old at (words_of (step_stored text.now (record { maps = maps.entry.now; map_count = map_count; sections = sections.now; section_count = section_count })) (staged_from (staged_step_at steps.now) staged_step_width 0 count)) }
 {
-    let mut i = 0;
-    let mut from = 0;
-    let mut to = at;
-    while i < count {
-        let step = table_record::stage::step_at(steps, from);
+    for i in 0..count {
+        let index = i as usize;
+        let step = StagedStep::at(steps, table_record::stage::STEP_WIDTH * index);
         put_step(
             text,
             maps,
@@ -112,11 +110,8 @@ fn put_steps(
             section_count,
             step,
             table,
-            to,
+            at + table_layout::STEP_WIDTH * index,
         );
-        i += 1;
-        from += table_record::stage::STEP_WIDTH;
-        to += table_layout::STEP_WIDTH;
     }
 }
 
@@ -145,18 +140,13 @@ fn put_models(table: &mut [u64], count: u64, models: &[u64]) -> usize
     ensures { (result ≡ 1 + model_width * count) × (table.new ≡ sets table.old 0 (models_words count models.now)) }
 {
     put_count(table, 0, count);
-    let mut i = 0;
-    let mut from = 0;
-    let mut to = 1;
-    while i < count {
-        let staged = table_record::stage::model_at(models, from);
+    for i in 0..count {
+        let index = i as usize;
+        let staged = StagedModel::at(models, table_record::stage::MODEL_WIDTH * index);
         let model = staged.model;
-        table_record::put_model_at(table, to, model);
-        i += 1;
-        from += table_record::stage::MODEL_WIDTH;
-        to += table_layout::MODEL_WIDTH;
+        model.put_at(table, 1 + table_layout::MODEL_WIDTH * index);
     }
-    to
+    1 + table_layout::MODEL_WIDTH * (count as usize)
 }
 
 // Stores models, steps, maps and pins from the first word on. Gives the word behind them.
@@ -221,11 +211,8 @@ fn move_up(table: &mut [u64], count: usize, up: usize)
     requires { up + count ≤ length table.old }
     ensures { table.new ≡ sets table.old up (take count table.old) }
 {
-    let mut i = count;
-    while 0 < i {
-        let next = i - 1;
-        table[up + next] = table[next];
-        i = next;
+    for i in (0..count).rev() {
+        table[up + i] = table[i];
     }
 }
 

@@ -15,8 +15,8 @@ use Rattle.table_layout.specs.Layout.{widths, joined, layout}
 use Rattle.table_layout.specs.Way.Parts.{AllLong, Wide}
 use Rattle.table_layout.specs.Way.Parts as parts
 use Rattle.table_layout.proofs.LayoutLaws.{length_joined}
-use Rattle.table_layout.specs.View.{are_within, view_of}
-use Rattle.table_layout.specs.declared.View.{View}
+use Rattle.table_layout.specs.View.{are_within, placed, view_of}
+use Rattle.std.specs.Prelude.{Some}
 
 -- no part has more records than its bound
 pub data AllFew : List ℕ → List (List (List ℕ)) → Type 0 where
@@ -64,6 +64,6 @@ all_few (b ∷ bs) (records ∷ parts) e h =
     let l : length bs ≡ length parts = omega arith in
     AllFew.more (h zero) (all_few bs parts l (λ (p : ℕ). h (suc p)))
 
-pub laid_view : (parts : List (List (List ℕ))) (rest : List ℕ) → Wide widths parts → AllFew bounds parts → (view_of (layout parts ++ rest)).fits ≡ true
+pub laid_view : (parts : List (List (List ℕ))) (rest : List ℕ) → Wide widths parts → AllFew bounds parts → view_of (layout parts ++ rest) ≡ Some (placed (layout parts ++ rest))
 unfolding view_of
-laid_view parts rest wide few = ap (λ (v : View). v.fits) (if_true _ _ (laid_within rest (layout parts ++ rest) 0 wide few (omega arith) refl))
+laid_view parts rest wide few = if_true _ _ (laid_within rest (layout parts ++ rest) 0 wide few (omega arith) refl)

@@ -1,8 +1,8 @@
 -- What a view gives: the records of each part are those that the table holds, all inside it, and there are not too
 -- many.
 -- Assumes nothing.
-use mathlib.Core.Path.{◌≡◌, refl, sym, ◌∙◌, ap}
-use mathlib.Core.Bool.{Bool, true, false, true≢false}
+use mathlib.Core.Path.{◌≡◌, sym, ◌∙◌, ap}
+use mathlib.Core.Bool.{true, false, true≢false}
 use mathlib.Core.List.{List, [], ◌∷◌}
 use Prim.Native.Nat.{ℕ, zero, suc, ◌+◌, ◌*◌, ◌≤◌, ◌<◌}
 use native.Mathlib.Nat.{not-suc-le-zero, le_of_suc-le-suc, add-zero}
@@ -13,7 +13,8 @@ use borrow.Author.Tests.{leb-true}
 use Rattle.table_layout.specs.Bounds.{bounds}
 use Rattle.base.proofs.IfLaws.{if_true, if_false, by_cases, both_first, both_second}
 use Rattle.table_layout.specs.Layout.{widths, chopped, parts_in, part_count}
-use Rattle.table_layout.specs.View.{are_within, bases_at, counts_at, end_at, no_view, view_of}
+use Rattle.table_layout.specs.View.{are_within, bases_at, counts_at, end_at, placed, view_of}
+use Rattle.std.specs.Prelude.{Option, Some, is_some, unwrap_or}
 use Rattle.table_layout.specs.declared.View.{View}
 
 pub record Viewed (t : List ℕ) (v : View) : Type 0 where
@@ -66,29 +67,25 @@ ends_at (w ∷ ws) (b ∷ bs) t at e = ends_at ws bs t (at + 1 + w * get_or t at
 
 -- ---- the view of a table
 
-abbrev fits_of : View → Bool
-fits_of v = v.fits
+-- a table has a view exactly where its counts fit
+module _ (t : List ℕ) (v : View) (is_view : Some v ≡ view_of t) where
+  view_within : are_within widths bounds t 0 ≡ true
+  unfolding view_of
+  view_within =
+      by_cases _ (are_within widths bounds t 0)
+      (λ (h : are_within widths bounds t 0 ≡ true). h)
+      (λ (h : are_within widths bounds t 0 ≡ false). absurd (true≢false (ap is_some (is_view ∙ if_false _ _ h))))
 
-pub no_view_fits : fits_of no_view ≡ false
-unfolding no_view
-no_view_fits = refl
+  pub view_placed : v ≡ placed t
+  unfolding view_of
+  view_placed = ap (λ (o : Option View). unwrap_or o v) (is_view ∙ if_true _ _ view_within)
 
-view_within : (t : List ℕ) → (view_of t).fits ≡ true → are_within widths bounds t 0 ≡ true
-unfolding view_of
-view_within t e =
-    by_cases _ (are_within widths bounds t 0)
-    (λ (h : are_within widths bounds t 0 ≡ true). h)
-    (λ (h : are_within widths bounds t 0 ≡ false). absurd (true≢false (sym e ∙ ap fits_of (if_false _ _ h) ∙ no_view_fits)))
-
-pub viewed : (t : List ℕ) → (view_of t).fits ≡ true → Viewed t (view_of t)
-unfolding view_of
-viewed t e =
-    let w : are_within widths bounds t 0 ≡ true = view_within t e in
-    let v : view_of t ≡ record { fits = true; bases = bases_at widths t 0; counts = counts_at widths t 0; end = end_at widths t 0 } = if_true _ _ w in
-    rw v
-    (record {
-      records = parts_at widths t 0;
-      inside = λ (p : ℕ). inside_at widths bounds t 0 p w;
-      few = λ (p : ℕ). few_at widths bounds t 0 p w;
-      ends = ends_at widths bounds t 0 w;
-    })
+  pub viewed : Viewed t v
+  viewed =
+      rw view_placed
+      (record {
+        records = parts_at widths t 0;
+        inside = λ (p : ℕ). inside_at widths bounds t 0 p view_within;
+        few = λ (p : ℕ). few_at widths bounds t 0 p view_within;
+        ends = ends_at widths bounds t 0 view_within;
+      })

@@ -24,7 +24,7 @@ use Rattle.table_layout.specs.Way.Bases.{bases_from, part_base, BoundedCounts}
 
 needed_on : (ws counts : List ℕ) (part at goal : ℕ) → part < length ws → part < length counts →
     at + needed (drop part ws) (drop part counts) ≡ goal →
-    at + 1 + get_or ws part 0 * get_or counts part 0 + needed (drop (part + 1) ws) (drop (part + 1) counts) ≡ goal
+    at + (1 + get_or ws part 0 * get_or counts part 0) + needed (drop (part + 1) ws) (drop (part + 1) counts) ≡ goal
 unfolding needed
 needed_on ws counts part at goal h k e =
     let n : at + needed (get_or ws part 0 ∷ drop (suc part) ws) (get_or counts part 0 ∷ drop (suc part) counts) ≡ goal =
@@ -34,7 +34,7 @@ needed_on ws counts part at goal h k e =
 module _ (counts : List ℕ) (part at : ℕ) (long : length counts ≡ part_count)
     (inv : at + needed (drop part widths) (drop part counts) ≡ needed widths counts) where
   pub part_on : part < part_count →
-      at + 1 + get_or widths part 0 * get_or counts part 0 + needed (drop (part + 1) widths) (drop (part + 1) counts) ≡ needed widths counts
+      at + (1 + get_or widths part 0 * get_or counts part 0) + needed (drop (part + 1) widths) (drop (part + 1) counts) ≡ needed widths counts
   part_on h =
       let k : part < length counts = omega arith in
       needed_on widths counts part at (needed widths counts) h k inv
@@ -144,16 +144,7 @@ base_fits counts part words few e = omega (arith, needed_split part widths count
 
 module _ (counts : List ℕ) (part at : ℕ) (long : length counts ≡ part_count) (few : BoundedCounts counts) (h : part < part_count)
     (inv : at + needed (drop part widths) (drop part counts) ≡ needed widths counts) where
-  pub place_fits : Fits w64 (at * 8)
-  place_fits = omega (arith, part_within counts part at long inv h, needed_few counts few)
-
-  pub first_fits : Fits w64 (at + 1)
-  first_fits = omega (arith, part_within counts part at long inv h, needed_few counts few)
-
-  pub part_fits : Fits w64 (get_or widths part 0 * get_or counts part 0)
-  part_fits = omega (arith, part_within counts part at long inv h, needed_few counts few)
-
-  pub sum_fits : Fits w64 (at + 1 + get_or widths part 0 * get_or counts part 0)
+  pub sum_fits : Fits w64 (at + (1 + get_or widths part 0 * get_or counts part 0))
   sum_fits = omega (arith, part_within counts part at long inv h, needed_few counts few)
 
 -- ---- every record has at least one word
@@ -163,7 +154,3 @@ unfolding all
 each_in test [] p h l = absurd (not-suc-le-zero l)
 each_in test (n ∷ ns) zero h l = both_first _ _ h
 each_in test (n ∷ ns) (suc p) h l = each_in test ns p (both_second _ _ h) (le_of_suc-le-suc l)
-
-pub widths_some : (p : ℕ) → p < length widths → 0 < get_or widths p 0
-unfolding all both
-widths_some p h = ltb-true _ _ (each_in (λ (w : ℕ). ltb 0 w) widths p refl h)

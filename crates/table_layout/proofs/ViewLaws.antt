@@ -1,11 +1,8 @@
 -- Laws of the loop that makes a view: the parts that are left complete what the parts so far give.
 -- Assumes nothing.
 use mathlib.Core.Path.{◌≡◌, refl, sym, ◌∙◌}
-use mathlib.Core.Bool.{true}
 use mathlib.Core.List.{List, [], ◌∷◌}
 use Prim.Native.Nat.{ℕ, suc, ◌+◌, ◌*◌, ◌≤◌, ◌<◌}
-use mir.Syntax.{w64}
-use mir.Val.{Fits}
 use native.Mathlib.Nat.{mul-le-mul}
 use native.Mathlib.Numerals.{add-one}
 use native.Mathlib.Omega.{arith}
@@ -16,8 +13,8 @@ use Rattle.table_layout.specs.Bounds.{bounds, most_values}
 use Rattle.base.proofs.IfLaws.{if_true, if_false, both_rest, both_not_left}
 use Rattle.table_layout.specs.Layout.{widths, part_count}
 use Rattle.table_layout.proofs.StoreLaws.{widest, most_part_words, widths_small, bounds_small}
-use Rattle.table_layout.specs.View.{are_within, bases_at, counts_at, end_at, no_view, view_of}
-use Rattle.table_layout.specs.declared.View.{View}
+use Rattle.table_layout.specs.View.{are_within, bases_at, counts_at, end_at, view_of}
+use Rattle.std.specs.Prelude.{Some, None}
 
 pub record ViewLeft (t bases counts : List ℕ) (at part : ℕ) : Type 0 where
   pub below : part ≤ part_count
@@ -32,14 +29,14 @@ unfolding bases_at counts_at
 view_starts t = record { below = omega arith; near = omega arith; begun = refl; counted = refl; ends = refl; within = refl }
 
 module _ (t bases counts : List ℕ) (at part : ℕ) (left : ViewLeft t bases counts at part) where
-  pub view_short : (r : View) → r ≡ no_view → part_count ≤ part → length t < at → r ≡ view_of t
+  pub view_short : part_count ≤ part → length t < at → None ≡ view_of t
   unfolding view_of are_within
-  view_short r none h s =
+  view_short h s =
       let e : drop part widths ≡ [] = drop_of_length-le widths h in
       let w : are_within [] (drop part bounds) t at ≡ are_within widths bounds t 0 = rw e at left.within in
-      none ∙ sym (if_false _ _ (sym w ∙ lt-leb _ _ s))
+      sym (if_false _ _ (sym w ∙ lt-leb _ _ s))
 
-  pub view_done : part_count ≤ part → at ≤ length t → record { fits = true; bases = bases; counts = counts; end = at } ≡ view_of t
+  pub view_done : part_count ≤ part → at ≤ length t → Some (record { bases = bases; counts = counts; end = at }) ≡ view_of t
   unfolding view_of are_within bases_at counts_at end_at
   view_done h s =
       let e : drop part widths ≡ [] = drop_of_length-le widths h in
@@ -47,7 +44,7 @@ module _ (t bases counts : List ℕ) (at part : ℕ) (left : ViewLeft t bases co
       let b : bases ≡ bases_at widths t 0 = rw e at left.begun in
       let c : counts ≡ counts_at widths t 0 = rw e at left.counted in
       let n : at ≡ end_at widths t 0 = rw e at left.ends in
-      (λ i. record { fits = true; bases = b i; counts = c i; end = n i }) ∙ sym (if_true _ _ (sym w ∙ le-leb _ _ s))
+      (λ i. Some (record { bases = b i; counts = c i; end = n i })) ∙ sym (if_true _ _ (sym w ∙ le-leb _ _ s))
 
   module _ (h : part < part_count) (count : ℕ) (is_count : count ≡ get_or t at 0) where
     on_widths : drop part widths ≡ get_or widths part 0 ∷ drop (suc part) widths
@@ -59,24 +56,15 @@ module _ (t bases counts : List ℕ) (at part : ℕ) (left : ViewLeft t bases co
     within_here : are_within (get_or widths part 0 ∷ drop (suc part) widths) (get_or bounds part 0 ∷ drop (suc part) bounds) t at ≡ are_within widths bounds t 0
     within_here = rw (on_widths, on_bounds) at left.within
 
-    pub view_fails : (r : View) → r ≡ no_view → get_or bounds part 0 < count → r ≡ view_of t
+    pub view_fails : get_or bounds part 0 < count → None ≡ view_of t
     unfolding view_of are_within
-    view_fails r none b =
+    view_fails b =
         let k : get_or bounds part 0 < get_or t at 0 = rw is_count at b in
-        none ∙ sym (if_false _ _ (sym within_here ∙ both_not_left _ _ (lt-leb _ _ k)))
+        sym (if_false _ _ (sym within_here ∙ both_not_left _ _ (lt-leb _ _ k)))
 
     module _ (few : count ≤ get_or bounds part 0) where
       product_small : get_or widths part 0 * count ≤ widest * most_values
       product_small = let b : get_or bounds part 0 ≤ most_values = bounds_small part in let k : count ≤ most_values = omega arith in mul-le-mul (widths_small part) k
-
-      pub first_fits : Fits w64 (at + 1)
-      first_fits = omega (arith, left.near)
-
-      pub part_fits : Fits w64 (get_or widths part 0 * count)
-      part_fits = omega (arith, product_small)
-
-      pub sum_fits : Fits w64 (at + 1 + get_or widths part 0 * count)
-      sum_fits = omega (arith, product_small, left.near)
 
       pub view_on : ViewLeft t (set bases part (at + 1)) (set counts part count) (at + 1 + get_or widths part 0 * count) (part + 1)
       unfolding bases_at counts_at end_at are_within

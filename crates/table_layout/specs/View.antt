@@ -1,9 +1,9 @@
 -- Document 01, "Sound": "counts within bounds (matrices 1,024) and the table long enough". A view gives where the
 -- records of each part begin in a table, and how many there are, by the counts that the table itself gives.
 -- Assumes nothing.
-use Rattle.std.specs.Prelude.{ℕ, ◌+◌, ◌*◌, Bool, true, false, List, [], ◌∷◌, length, get_or, replicate, leb}
+use Rattle.std.specs.Prelude.{ℕ, ◌+◌, ◌*◌, Bool, false, Option, Some, None, List, [], ◌∷◌, length, get_or, leb}
 use Rattle.base.specs.If.{provided◌then◌else◌, both}
-use Rattle.table_layout.specs.Layout.{part_count, widths}
+use Rattle.table_layout.specs.Layout.{widths}
 use Rattle.table_layout.specs.Bounds.{bounds}
 use Rattle.table_layout.specs.declared.View.{View}
 
@@ -28,11 +28,10 @@ unfoldable pub end_at : List ℕ → List ℕ → ℕ → ℕ
 end_at [] t at = at
 end_at (w ∷ ws) t at = end_at ws t (at + 1 + w * get_or t at 0)
 
-unfoldable pub no_view : View
-no_view = record { fits = false; bases = replicate part_count 0; counts = replicate part_count 0; end = 0 }
+-- where the counts of a table place its parts, whether or not they fit
+abbrev pub placed : List ℕ → View
+placed t = record { bases = bases_at widths t 0; counts = counts_at widths t 0; end = end_at widths t 0 }
 
-unfoldable pub view_of : List ℕ → View
-view_of t =
-    provided are_within widths bounds t 0
-    then record { fits = true; bases = bases_at widths t 0; counts = counts_at widths t 0; end = end_at widths t 0 }
-    else no_view
+-- the view of a table that fits
+unfoldable pub view_of : List ℕ → Option View
+view_of t = provided are_within widths bounds t 0 then Some (placed t) else None

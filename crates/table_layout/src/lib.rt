@@ -5,7 +5,7 @@ ghost use Rattle.std.specs.Prelude.{◌≡◌, ◌+◌, ◌≤◌, ◌<◌, take
 ghost use Rattle.table_layout.specs.Layout.{widths, part_count, needed};
 ghost use Rattle.table_layout.specs.Bounds.{bounds};
 ghost use Rattle.table_layout.specs.Way.Bases.{part_base, BoundedCounts};
-ghost use Rattle.table_layout.specs.View.{view_of, no_view};
+ghost use Rattle.table_layout.specs.View.{view_of};
 
 pub mod bound;
 pub mod code;
@@ -71,10 +71,8 @@ fn words_before(counts: [u64; PARTS], part: usize) -> usize
     ensures { result ≡ needed (take part widths) (take part counts) }
 {
     let mut words = 0;
-    let mut next = 0;
-    while next < part {
-        words = words + 1 + WIDTHS[next] * (counts[next] as usize);
-        next += 1;
+    for next in 0..part {
+        words += 1 + WIDTHS[next] * (counts[next] as usize);
     }
     words
 }
@@ -104,63 +102,43 @@ pub fn part_base(counts: [u64; PARTS], part: usize) -> usize
 
 // ---- where the parts of a table are, by the counts that the table itself gives
 
-// Where the records of each part begin, how many there are, and where the last one ends. It fits if no count is above its bound and all
-// records lie inside the table.
+// Where the records of each part begin, how many there are, and where the last one ends.
 #[derive(Clone, Copy)]
 pub struct View {
-    pub fits: bool,
     pub bases: [usize; PARTS],
     pub counts: [u64; PARTS],
     pub end: usize,
-}
-
-// The view of a table that does not fit.
-pub fn no_view() -> View
-    ensures { result ≡ no_view }
-{
-    View {
-        fits: false,
-        bases: [0; PARTS],
-        counts: [0; PARTS],
-        end: 0,
-    }
 }
 
 // A word of a table, 0 past its end.
 fn word_at(table: &[u64], at: usize) -> u64
     ensures { result ≡ get_or table.now at 0 }
 {
-    if table.len() <= at {
-        return 0;
-    }
-    table[at]
+    table.get(at).copied().unwrap_or(0)
 }
 
-// The view of any table.
-pub fn view_of(table: &[u64]) -> View
+// The view of any table; none if a count is above its bound, or if not all records lie inside the table.
+pub fn view_of(table: &[u64]) -> Option<View>
     ensures { result ≡ view_of table.now }
 {
     let mut bases = [0; PARTS];
     let mut counts = [0; PARTS];
     let mut at = 0;
-    let mut part = 0;
-    while part < PARTS {
+    for part in 0..PARTS {
         let count = word_at(table, at);
         if BOUNDS[part] < count {
-            return no_view();
+            return None;
         }
         bases[part] = at + 1;
         counts[part] = count;
         at = at + 1 + WIDTHS[part] * (count as usize);
-        part += 1;
     }
     if table.len() < at {
-        return no_view();
+        return None;
     }
-    View {
-        fits: true,
+    Some(View {
         bases,
         counts,
         end: at,
-    }
+    })
 }

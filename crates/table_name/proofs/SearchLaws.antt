@@ -64,72 +64,74 @@ abbrev found_in : List ℕ → List ℕ → ℕ → ℕ → List ℕ → ℕ →
 found_in t table width count name after i at = index_of (is_named t name after) (chopped width (count - i) (drop at table))
 
 -- none of the first i records is it
-pub record Searching (t table : List ℕ) (base width count : ℕ) (name : List ℕ) (after i at : ℕ) : Type 0 where
+pub record Searching (t table : List ℕ) (base width count : ℕ) (name : List ℕ) (after i : ℕ) : Type 0 where
   pub within : i ≤ count
-  pub place : at ≡ base + width * i
-  pub same : i + found_in t table width count name after i at ≡ find_in t table base width count name after
+  pub same : i + found_in t table width count name after i (base + width * i) ≡ find_in t table base width count name after
 
 module _ (t table : List ℕ) (base width count : ℕ) (name : List ℕ) (after : ℕ) where
-  pub search_starts : Searching t table base width count name after 0 base
+  pub search_starts : Searching t table base width count name after 0
   unfolding find_in
   search_starts =
+      let place : base + width * 0 ≡ base = rw (mul-zero width) (add-zero base) in
       record {
         within = omega arith;
-        place = rw (mul-zero width) (sym (add-zero base));
-        same = rw (sub-zero count) (zero-add (index_of (is_named t name after) (chopped width count (drop base table))));
+        same = rw (sub-zero count, place) (zero-add (index_of (is_named t name after) (chopped width count (drop base table))));
       }
 
-  module _ (i at : ℕ) (s : Searching t table base width count name after i at) where
+  module _ (i : ℕ) (s : Searching t table base width count name after i) where
     pub search_ends : count ≤ i → count ≡ find_in t table base width count name after
     unfolding chopped index_of
     search_ends h =
         let w : i ≤ count = s.within in
         let e : count - i ≡ 0 = omega arith in
-        let z : found_in t table width count name after i at ≡ 0 = rw e in
-        let k : i + found_in t table width count name after i at ≡ find_in t table base width count name after =
+        let z : found_in t table width count name after i (base + width * i) ≡ 0 = rw e in
+        let k : i + found_in t table width count name after i (base + width * i) ≡ find_in t table base width count name after =
         s.same in
         omega arith
 
     module _ (room : base + width * count ≤ length table) (wide : name_width ≤ width) (h : i < count) where
-      record_inside : at + width ≤ length table
+      -- where the next record begins
+      next_place : base + width * i + width ≡ base + width * (i + 1)
+      next_place =
+          let m : width * (i + 1) ≡ width * i + width = rw (add-one i) (mul-suc width i) in
+          omega arith
+
+      record_inside : base + width * i + width ≤ length table
       record_inside =
           let m : width * suc i ≤ width * count = mul-le-mul_left width h in
           let k : width * suc i ≡ width * i + width = mul-suc width i in
-          let p : at ≡ base + width * i = s.place in
           omega arith
 
-      pub name_inside : at + name_width ≤ length table
+      pub name_inside : base + width * i + name_width ≤ length table
       name_inside = omega (arith, record_inside)
 
-      pub place_fits : length table * 8 < 2 ^ 63 → Fits w64 (at + width)
+      pub place_fits : length table * 8 < 2 ^ 63 → Fits w64 (base + width * i)
       place_fits l = omega (arith, record_inside)
 
       -- the records that are left, the next one taken off
-      one_off : chopped width (count - i) (drop at table)
-          ≡ record_at table width at ∷ chopped width (count - (i + 1)) (drop (at + width) table)
+      one_off : chopped width (count - i) (drop (base + width * i) table)
+          ≡ record_at table width (base + width * i) ∷ chopped width (count - (i + 1)) (drop (base + width * (i + 1)) table)
       unfolding chopped
       one_off =
           let e : count - i ≡ suc (count - (i + 1)) = omega arith in
-          rw (e, ← drop-drop width at table)
+          rw (e, ← next_place, ← drop-drop width (base + width * i) table)
 
       -- the next one
-      module _ (own : NameRecord) (here : own ≡ name_record_at table at) (is : Bool) (told : is ≡ has_name t name after own) where
-        told_here : is ≡ is_named t name after (record_at table width at)
-        told_here = told ∙ ap (has_name t name after) (here ∙ sym (name_here table width at wide))
+      module _ (own : NameRecord) (here : own ≡ name_record_at table (base + width * i)) (is : Bool) (told : is ≡ has_name t name after own) where
+        told_here : is ≡ is_named t name after (record_at table width (base + width * i))
+        told_here = told ∙ ap (has_name t name after) (here ∙ sym (name_here table width (base + width * i) wide))
 
         pub search_finds : is ≡ true → i ≡ find_in t table base width count name after
         unfolding index_of
         search_finds e =
-            let z : found_in t table width count name after i at ≡ 0 = rw one_off (if_true _ _ (sym told_here ∙ e)) in
-            let k : i + found_in t table width count name after i at ≡ find_in t table base width count name after = s.same in
+            let z : found_in t table width count name after i (base + width * i) ≡ 0 = rw one_off (if_true _ _ (sym told_here ∙ e)) in
+            let k : i + found_in t table width count name after i (base + width * i) ≡ find_in t table base width count name after = s.same in
             omega arith
 
-        pub search_on : is ≡ false → Searching t table base width count name after (i + 1) (at + width)
+        pub search_on : is ≡ false → Searching t table base width count name after (i + 1)
         unfolding index_of
         search_on e =
-            let z : found_in t table width count name after i at ≡ suc (found_in t table width count name after (i + 1) (at + width)) =
+            let z : found_in t table width count name after i (base + width * i) ≡ suc (found_in t table width count name after (i + 1) (base + width * (i + 1))) =
             rw one_off (if_false _ _ (sym told_here ∙ e)) in
-            let k : i + found_in t table width count name after i at ≡ find_in t table base width count name after = s.same in
-            let m : width * (i + 1) ≡ width * i + width = rw (add-one i) (mul-suc width i) in
-            let p : at ≡ base + width * i = s.place in
-            record { within = omega arith; place = omega arith; same = omega arith }
+            let k : i + found_in t table width count name after i (base + width * i) ≡ find_in t table base width count name after = s.same in
+            record { within = omega arith; same = omega arith }

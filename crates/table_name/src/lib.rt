@@ -64,24 +64,13 @@ pub fn find_name(
     ensures { result ≡ find_in text.now table.now base width count name.now after }
 {
     let tail = fast::tail_of(name);
-    let mut i = 0;
-    let mut at = base;
-    while i < count {
-        let own = table_record::name_at(table, at);
+    for i in 0..count {
+        let own = table_record::name_at(table, base + width * (i as usize));
         if has_name(text, own, name, tail, after) {
             return i;
         }
-        i += 1;
-        at += width;
     }
     count
-}
-
-// A byte as a larger number, so that arithmetic with it is not limited to the width of a byte.
-fn wide(b: u8) -> usize
-    ensures { (result ≡ b) × (result < 256) }
-{
-    b as usize
 }
 
 // The mark of a name in a group: for the side of an end, the group is its map; for pins there is one group, 0. Equal names
@@ -90,10 +79,8 @@ pub fn hash_of(group: u64, name: &[u8]) -> usize
     ensures { result ≡ hash_of group name.now }
 {
     let mut mark = group as usize % BARE_MARKS;
-    let mut next = 0;
-    while next < name.len() {
-        mark = (mark * 37 + wide(name[next])) % NAME_MARKS + BARE_MARKS;
-        next += 1;
+    for b in name {
+        mark = (mark * 37 + usize::from(*b)) % NAME_MARKS + BARE_MARKS;
     }
     mark
 }

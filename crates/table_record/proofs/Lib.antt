@@ -1,5 +1,4 @@
 pub mod PlaceLaws
 pub mod RecordLaws
-pub mod StoreLaws
 pub mod BackLaws
 pub mod StageLaws

@@ -1,7 +1,6 @@
 -- The records that the view locates in a table are those of `records_of`, and lie inside the table.
 -- Assumes nothing.
 use mathlib.Core.Path.{◌≡◌, refl, sym, ◌∙◌, ap}
-use mathlib.Core.Bool.{true}
 use mathlib.Core.List.{List, [], ◌∷◌, map}
 use Prim.Native.Nat.{ℕ, zero, suc, ◌+◌, ◌*◌, ◌≤◌, ◌<◌}
 use native.Mathlib.Nat.{add-zero, mul-zero, mul-suc, le_of_suc-le-suc, not-suc-le-zero}
@@ -9,16 +8,13 @@ use native.Mathlib.Omega.{arith}
 use lib.ListN.{length, take, drop, get_or, length-map}
 use lib.Seq.{drop-drop, get_or-drop, get_or-take}
 use Rattle.table_layout.specs.Layout.{widths, models, steps, maps, pins, sections, matrices, values, part_count, model_width, step_width, map_width, pin_width, section_width, matrix_width, value_width, chopped, parts_in}
+use Rattle.std.specs.Prelude.{Some}
 use Rattle.table_layout.specs.View.{view_of}
 use Rattle.table_layout.specs.declared.View.{View}
 use Rattle.table_layout.proofs.PartLaws.{Viewed, viewed}
-use Rattle.table_record.specs.declared.ModelRecord.{ModelRecord}
-use Rattle.table_record.specs.declared.MapRecord.{MapRecord}
-use Rattle.table_record.specs.declared.MatrixRecord.{MatrixRecord}
-use Rattle.table_record.specs.declared.Value.{Value}
 use Rattle.table_record.specs.declared.StepRecord.{StepRecord}
 use Rattle.table_record.specs.declared.SectionRecord.{SectionRecord}
-use Rattle.table_record.specs.Records.{Records, to_model, to_step, to_map, to_pin, to_section, to_matrix, to_value, records_in, records_of, no_model, no_step, no_map, no_section, no_matrix, no_value}
+use Rattle.table_record.specs.Records.{Records, to_model, to_step, to_map, to_pin, to_section, to_matrix, to_value, records_in, records_of}
 use Rattle.table_record.specs.Way.Standing.{places, name_record_at, model_at, step_at, map_at, pin_at, section_at, matrix_at, value_at, base_of, count_of, places_of, kinds_from, values_from, kinds_at, methods_at, values_at, records_at, Rooms, name_width}
 use Rattle.table_record.proofs.PlaceLaws.{places_long}
 
@@ -169,10 +165,9 @@ module _ (table : List ℕ) (v : View) (holds : Viewed table v) where
         few_values = holds.few values (omega arith);
       }
 
--- the view of a table that fits
-module _ (table : List ℕ) (v : View) (is_view : v ≡ view_of table) (fits : (view_of table).fits ≡ true) where
-  pub view_rooms : Rooms table v
-  view_rooms = rw is_view (rooms_of table (view_of table) (viewed table fits))
+-- the view of a table
+pub view_rooms : (table : List ℕ) (v : View) → Some v ≡ view_of table → Rooms table v
+view_rooms table v is_view = rooms_of table v (viewed table v is_view)
 
 -- ---- how many there are, and what is gathered of them
 
@@ -257,33 +252,18 @@ module _ (table : List ℕ) (v : View) (rooms : Rooms table v) where
   pub values_long : length (records_of table).values ≡ count_of v values
   values_long = ap (λ (r : Records). length r.values) (sym rooms.records) ∙ sym (values_are table v)
 
-  module _ (i : ℕ) where
-    pub nth_model_lem : i < count_of v models → (x : ModelRecord) → x ≡ model_at table (base_of v models + model_width * i) → x ≡ get_or (records_of table).models i no_model
-    unfolding records_at places_of
-    nth_model_lem h x here =
-        here ∙ sym (record_at_lem model_width (model_at table) no_model (base_of v models) i (count_of v models) h) ∙ ap (λ (r : Records). get_or r.models i no_model) rooms.records
+module _ {A : Type 0} (kind : Records → List A) (stands : List ℕ → ℕ → A) (none : A) (part w : ℕ) (table : List ℕ) (v : View)
+    (is_kind : kind (records_at table v) ≡ map (stands table) (places_of v part)) (has_width : get_or widths part 0 ≡ w) (rooms : Rooms table v) where
+  pub nth_is : (i : ℕ) → i < count_of v part → stands table (base_of v part + w * i) ≡ get_or (kind (records_of table)) i none
+  unfolding places_of
+  nth_is i h =
+      sym (record_at_lem w (stands table) none (base_of v part) i (count_of v part) h)
+      ∙ ap (λ (n : ℕ). get_or (map (stands table) (places n (base_of v part) (count_of v part))) i none) (sym has_width)
+      ∙ ap (λ (xs : List A). get_or xs i none) (sym is_kind)
+      ∙ ap (λ (r : Records). get_or (kind r) i none) rooms.records
 
-    pub nth_step_lem : i < count_of v steps → (x : StepRecord) → x ≡ step_at table (base_of v steps + step_width * i) → x ≡ get_or (records_of table).steps i no_step
-    unfolding records_at places_of
-    nth_step_lem h x here =
-        here ∙ sym (record_at_lem step_width (step_at table) no_step (base_of v steps) i (count_of v steps) h) ∙ ap (λ (r : Records). get_or r.steps i no_step) rooms.records
-
-    pub nth_map_lem : i < count_of v maps → (x : MapRecord) → x ≡ map_at table (base_of v maps + map_width * i) → x ≡ get_or (records_of table).maps i no_map
-    unfolding records_at places_of
-    nth_map_lem h x here =
-        here ∙ sym (record_at_lem map_width (map_at table) no_map (base_of v maps) i (count_of v maps) h) ∙ ap (λ (r : Records). get_or r.maps i no_map) rooms.records
-
-    pub nth_section_lem : i < count_of v sections → (x : SectionRecord) → x ≡ section_at table (base_of v sections + section_width * i) → x ≡ get_or (records_of table).sections i no_section
-    unfolding records_at places_of
-    nth_section_lem h x here =
-        here ∙ sym (record_at_lem section_width (section_at table) no_section (base_of v sections) i (count_of v sections) h) ∙ ap (λ (r : Records). get_or r.sections i no_section) rooms.records
-
-    pub nth_matrix_lem : i < count_of v matrices → (x : MatrixRecord) → x ≡ matrix_at table (base_of v matrices + matrix_width * i) → x ≡ get_or (records_of table).matrices i no_matrix
-    unfolding records_at places_of
-    nth_matrix_lem h x here =
-        here ∙ sym (record_at_lem matrix_width (matrix_at table) no_matrix (base_of v matrices) i (count_of v matrices) h) ∙ ap (λ (r : Records). get_or r.matrices i no_matrix) rooms.records
-
-    pub nth_value_lem : i < count_of v values → (x : Value) → x ≡ value_at table (base_of v values + value_width * i) → x ≡ get_or (records_of table).values i no_value
-    unfolding records_at places_of
-    nth_value_lem h x here =
-        here ∙ sym (record_at_lem value_width (value_at table) no_value (base_of v values) i (count_of v values) h) ∙ ap (λ (r : Records). get_or r.values i no_value) rooms.records
+  pub kind_long : length (kind (records_of table)) ≡ count_of v part
+  unfolding places_of
+  kind_long =
+      ap (λ (r : Records). length (kind r)) (sym rooms.records) ∙ ap length is_kind
+      ∙ length-map (places_of v part) (stands table) ∙ places_long (get_or widths part 0) _ _

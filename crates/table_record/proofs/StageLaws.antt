@@ -4,7 +4,7 @@
 use mathlib.Core.Path.{◌≡◌, refl, sym, ◌∙◌, ap}
 use mathlib.Core.Bool.{true, false}
 use mathlib.Core.List.{List, [], ◌∷◌, ◌++◌, append_assoc, append-nil}
-use Prim.Native.Nat.{ℕ, zero, suc, ◌+◌, ◌*◌, ◌/◌, ◌^◌, ◌≤◌, ◌<◌}
+use Prim.Native.Nat.{ℕ, zero, suc, ◌+◌, ◌*◌, ◌/◌, ◌≤◌, ◌<◌}
 use native.Mathlib.Nat.{add_comm, add-zero, zero-add, mul-suc, mul-add, mul-zero, le_trans, mul-le-mul, le_refl, mul_comm, lt-div-mul-add, div-mul-le_self}
 use native.Mathlib.Numerals.{add-one}
 use native.Mathlib.Omega.{arith}
@@ -13,10 +13,9 @@ use lib.Seq.{sets, sets-eq, length-sets, take_at, drop_at, drop-drop, get_or-dro
 use lib.Dec.{leb}
 use borrow.Author.Tests.{le-leb, lt-leb}
 use Rattle.base.proofs.IfLaws.{if_true, if_false, by_cases}
-use Rattle.table_layout.specs.Layout.{model_width, joined}
-use Rattle.table_record.specs.Way.Standing.{model_at}
+use Rattle.std.proofs.Common.{subst}
+use Rattle.table_layout.specs.Layout.{joined}
 use Rattle.table_record.specs.Way.Stage.{words_of, put_at, Held, Whole, staged_from, staged_model_width, staged_model_words, staged_model_at, staged_step_width, staged_step_words, staged_step_at}
-use Rattle.table_record.specs.declared.ModelRecord.{ModelRecord}
 use Rattle.table_record.specs.declared.stage.StagedModel.{StagedModel}
 use Rattle.table_record.specs.declared.stage.StagedStep.{StagedStep}
 
@@ -140,11 +139,6 @@ module _ {A : Type 0} (words : A → List ℕ) (width : ℕ) (whole : List A) wh
 
 -- ---- and back
 
-pub model_read :
-    (stage : List ℕ) (at : ℕ) (own : ModelRecord) → own ≡ model_at stage at →
-    record { model = own; sgr = get_or stage (at + model_width) 0 } ≡ staged_model_at stage at
-model_read stage at own e = λ i. record { model = e i; sgr = get_or stage (at + model_width) 0 }
-
 pub drop_taken : (w n : ℕ) (l : List ℕ) → drop w (take (w + n) l) ≡ take n (drop w l)
 drop_taken zero n l = ap (λ (k : ℕ). take k l) (zero-add n)
 drop_taken (suc w) n [] = empty (suc w + n) ∙ sym (nothing n)
@@ -219,17 +213,28 @@ room_above many wide index h =
     let d : wide * suc index ≡ wide * index + wide = mul-suc wide index in
     omega arith
 
-pub put_none : (stage ws : List ℕ) (index : ℕ) → 0 < length ws → length stage / length ws ≤ index → stage ≡ put_at (length ws * index) ws stage
+put_none : (stage ws : List ℕ) (index : ℕ) → 0 < length ws → length stage / length ws ≤ index → stage ≡ put_at (length ws * index) ws stage
 unfolding put_at
 put_none stage ws index some h = sym (if_false _ _ (lt-leb _ _ (room_below (length stage) (length ws) index some h)))
 
-pub put_room : (stage ws : List ℕ) (index : ℕ) → index < length stage / length ws → length ws * index + length ws ≤ length stage
+put_room : (stage ws : List ℕ) (index : ℕ) → index < length stage / length ws → length ws * index + length ws ≤ length stage
 put_room stage ws index h = room_above (length stage) (length ws) index h
 
-pub put_some : (stage ws : List ℕ) (index : ℕ) → index < length stage / length ws → (stage' : List ℕ) → stage' ≡ sets stage (length ws * index) ws → stage' ≡ put_at (length ws * index) ws stage
+put_some : (stage ws : List ℕ) (index : ℕ) → index < length stage / length ws → (stage' : List ℕ) → stage' ≡ sets stage (length ws * index) ws → stage' ≡ put_at (length ws * index) ws stage
 put_some stage ws index h stage' e = e ∙ sym (put_fits (length ws * index) ws stage (put_room stage ws index h))
 
-pub put_small : (stage ws : List ℕ) (index : ℕ) → index < length stage / length ws → length stage * 8 < 2 ^ 63 → length ws * index < 2 ^ 64
-put_small stage ws index h few =
-    let r : length ws * index + length ws ≤ length stage = put_room stage ws index h in
-    omega arith
+-- what is as wide as a type says, by the width that the code reads of it
+module _ (stage ws : List ℕ) (index width : ℕ) (long : length ws ≡ width) (w : ℕ) (is_width : w ≡ width) where
+  as_long : w ≡ length ws
+  as_long = is_width ∙ sym long
+
+  pub put_left : 0 < width → length stage / w ≤ index → stage ≡ put_at (width * index) ws stage
+  put_left some h =
+      put_none stage ws index (subst (λ (n : ℕ). 0 < n) (sym long) some) (subst (λ (n : ℕ). length stage / n ≤ index) as_long h)
+      ∙ ap (λ (n : ℕ). put_at (n * index) ws stage) long
+
+  pub put_stored : index < length stage / w → (v : ℕ) → v ≡ width → (stage' : List ℕ) → stage' ≡ sets stage (v * index) ws → stage' ≡ put_at (width * index) ws stage
+  put_stored h v is stage' e =
+      put_some stage ws index (subst (λ (n : ℕ). index < length stage / n) as_long h) stage'
+      (e ∙ ap (λ (n : ℕ). sets stage (n * index) ws) (is ∙ sym long))
+      ∙ ap (λ (n : ℕ). put_at (n * index) ws stage) long

@@ -2,18 +2,20 @@
 // which.
 #![tactic(auto)]
 
-ghost use Rattle.std.specs.Prelude.{◌≡◌, ◌+◌, ◌≤◌, ◌<◌, length, get_or};
+ghost use Rattle.std.specs.Prelude.{◌≡◌, ℕ, ◌+◌, ◌≤◌, ◌<◌, List, [], map, length, get_or, refl};
+ghost use Rattle.std.proofs.Common.{lit<};
 ghost use Rattle.std.proofs.lemmas.List.Edits.{sets};
-ghost use Rattle.table_layout.specs.Layout.{models, steps, maps, pins, sections, matrices, values, model_width, step_width, map_width, pin_width, section_width, matrix_width, value_width};
-ghost use Rattle.table_record.specs.Records.{model_words, step_words, value_words, records_of, no_model, no_step, no_map, no_section, no_matrix, no_value};
-ghost use Rattle.table_record.specs.Way.Standing.{name_record_at, model_at, step_at, map_at, pin_at, section_at, matrix_at, value_at, count_of, Rooms, name_width};
+ghost use Rattle.table_layout.specs.declared.View.{View};
+ghost use Rattle.table_layout.specs.Layout.{models, steps, maps, pins, sections, matrices, values, part_count, widths, model_width, step_width, map_width, pin_width, section_width, matrix_width, value_width};
+ghost use Rattle.table_record.specs.Records.{Records, no_records, model_words, step_words, map_words, pin_words, section_words, matrix_words, value_words, to_pin, records_of, no_model, no_step, no_map, no_section, no_matrix, no_value};
+ghost use Rattle.table_record.specs.Way.Standing.{name_record_at, model_at, step_at, map_at, pin_at, section_at, matrix_at, value_at, count_of, places_of, records_at, Rooms, name_width};
 
 use table_layout::View;
 
 pub mod stage;
 
 // "models (name start, length, type, first step, steps)". The type is its `kind`.
-#[derive(Clone, Copy)]
+#[derive(Clone, Copy, Default)]
 pub struct ModelRecord {
     pub start: u64,
     pub size: u64,
@@ -24,7 +26,7 @@ pub struct ModelRecord {
 
 // "steps (kind 0 end 1 section 2 fork 3 endfork; target or 0; amount: Mult, the Len value word, or 0; side start and length or
 // 0 0; line)".
-#[derive(Clone, Copy)]
+#[derive(Clone, Copy, Default)]
 pub struct StepRecord {
     pub kind: u64,
     pub target: u64,
@@ -35,7 +37,7 @@ pub struct StepRecord {
 }
 
 // "maps (start, length, order, rows, columns, first pin, pins; Un_ordered has 0 0 for rows, columns)".
-#[derive(Clone, Copy)]
+#[derive(Clone, Copy, Default)]
 pub struct MapRecord {
     pub start: u64,
     pub size: u64,
@@ -47,14 +49,14 @@ pub struct MapRecord {
 }
 
 // "pins (start, length)".
-#[derive(Clone, Copy)]
+#[derive(Clone, Copy, Default)]
 pub struct PinRecord {
     pub start: u64,
     pub size: u64,
 }
 
 // "sections (start, length, method, N, R L G C each matrix index plus 1 or 0)".
-#[derive(Clone, Copy)]
+#[derive(Clone, Copy, Default)]
 pub struct SectionRecord {
     pub start: u64,
     pub size: u64,
@@ -67,7 +69,7 @@ pub struct SectionRecord {
 }
 
 // "matrices (form 0 diagonal 1 banded 2 sparse 3 full, bandwidth or 0, first value, values, line)".
-#[derive(Clone, Copy)]
+#[derive(Clone, Copy, Default)]
 pub struct MatrixRecord {
     pub form: u64,
     pub bandwidth: u64,
@@ -77,7 +79,7 @@ pub struct MatrixRecord {
 }
 
 // "values (row, column, value word), one per number written".
-#[derive(Clone, Copy)]
+#[derive(Clone, Copy, Default)]
 pub struct Value {
     pub row: u64,
     pub column: u64,
@@ -103,269 +105,438 @@ pub fn name_at(table: &[u64], at: usize) -> NameRecord
     }
 }
 
-pub fn model_at(table: &[u64], at: usize) -> ModelRecord
-    requires { at + model_width ≤ length table.now }
-    ensures { result ≡ model_at table.now at }
-{
-    ModelRecord {
-        start: table[at],
-        size: table[at + 1],
-        kind: table[at + 2],
-        first: table[at + 3],
-        steps: table[at + 4],
-    }
+// ---- values as rows of words
+
+// A value that is stored as a row of words, one word after another.
+pub trait Words: Copy {
+    ghost WIDTH: { ℕ };
+
+    const WIDTH: usize;
+
+    // Its words, and the value whose words begin at a word of a table.
+    ghost words: { Self → List ℕ };
+
+    ghost stands: { List ℕ → ℕ → Self };
+
+    // The value whose words begin at word `at`.
+    fn at(table: &[u64], at: usize) -> Self
+        requires { at + WIDTH ≤ length table.now }
+        ensures { result ≡ stands table.now at };
+
+    // Stores its words, the first at word `at`.
+    fn put_at(self, table: &mut [u64], at: usize)
+        requires { at + WIDTH ≤ length table.old }
+        ensures { table.new ≡ sets table.old at (words self) };
+
+    ghost some_words: { 0 < WIDTH };
+
+    ghost all_words: { (x : Self) → length (words x) ≡ WIDTH };
 }
 
-pub fn step_at(table: &[u64], at: usize) -> StepRecord
-    requires { at + step_width ≤ length table.now }
-    ensures { result ≡ step_at table.now at }
-{
-    StepRecord {
-        kind: table[at],
-        target: table[at + 1],
-        amount: table[at + 2],
-        side: table[at + 3],
-        side_size: table[at + 4],
-        line: table[at + 5],
-    }
+// A record of a part of a table.
+pub trait Record: Words + Default {
+    ghost PART: { ℕ };
+
+    const PART: usize;
+
+    // The list of such records among those of a table, and the record of no index: all its words are 0, as the default's are.
+    ghost kind: { Records → List Self };
+
+    ghost none: { Self };
+
+    ghost is_none: { (x : Self) → Self.is_default x → x ≡ none };
+
+    ghost has_none: { kind no_records ≡ [] };
+
+    ghost has_part: { PART < part_count };
+
+    ghost has_width: { get_or widths PART 0 ≡ Self.WIDTH };
+
+    ghost is_kind: { (table : List ℕ) (v : View) → kind (records_at table v) ≡ map (Self.stands table) (places_of v PART) };
 }
 
-pub fn map_at(table: &[u64], at: usize) -> MapRecord
-    requires { at + map_width ≤ length table.now }
-    ensures { result ≡ map_at table.now at }
-{
-    MapRecord {
-        start: table[at],
-        size: table[at + 1],
-        order: table[at + 2],
-        rows: table[at + 3],
-        columns: table[at + 4],
-        first: table[at + 5],
-        pins: table[at + 6],
+impl Words for ModelRecord {
+    ghost WIDTH = { model_width };
+
+    const WIDTH: usize = table_layout::MODEL_WIDTH;
+
+    ghost words = { model_words };
+
+    ghost stands = { model_at };
+
+    fn at(table: &[u64], at: usize) -> Self {
+        Self {
+            start: table[at],
+            size: table[at + 1],
+            kind: table[at + 2],
+            first: table[at + 3],
+            steps: table[at + 4],
+        }
     }
+
+    fn put_at(self, table: &mut [u64], at: usize) {
+        let words = [self.start, self.size, self.kind, self.first, self.steps];
+        base::put_words(table, at, &words);
+    }
+
+    ghost some_words = { lit< tt };
+
+    ghost all_words = { λ x. refl };
 }
 
-pub fn pin_at(table: &[u64], at: usize) -> PinRecord
-    requires { at + pin_width ≤ length table.now }
-    ensures { result ≡ pin_at table.now at }
-{
-    PinRecord {
-        start: table[at],
-        size: table[at + 1],
-    }
+impl Record for ModelRecord {
+    ghost PART = { models };
+
+    const PART: usize = table_layout::MODELS;
+
+    ghost kind = { λ r. r.models };
+
+    ghost none = { no_model };
+
+    ghost is_none = { λ x h i. record { start = h.0 i; size = h.1.0 i; kind = h.1.1.0 i; first = h.1.1.1.0 i; steps = h.1.1.1.1 i } };
+
+    ghost has_none = { refl };
+
+    ghost has_part = { lit< tt };
+
+    ghost has_width = { refl };
+
+    ghost is_kind = { λ table v. unfold records_at in unfold places_of in refl };
 }
 
-pub fn section_at(table: &[u64], at: usize) -> SectionRecord
-    requires { at + section_width ≤ length table.now }
-    ensures { result ≡ section_at table.now at }
-{
-    SectionRecord {
-        start: table[at],
-        size: table[at + 1],
-        method: table[at + 2],
-        conductors: table[at + 3],
-        resistance: table[at + 4],
-        inductance: table[at + 5],
-        conductance: table[at + 6],
-        capacitance: table[at + 7],
+impl Words for StepRecord {
+    ghost WIDTH = { step_width };
+
+    const WIDTH: usize = table_layout::STEP_WIDTH;
+
+    ghost words = { step_words };
+
+    ghost stands = { step_at };
+
+    fn at(table: &[u64], at: usize) -> Self {
+        Self {
+            kind: table[at],
+            target: table[at + 1],
+            amount: table[at + 2],
+            side: table[at + 3],
+            side_size: table[at + 4],
+            line: table[at + 5],
+        }
     }
+
+    fn put_at(self, table: &mut [u64], at: usize) {
+        let words = [
+            self.kind,
+            self.target,
+            self.amount,
+            self.side,
+            self.side_size,
+            self.line,
+        ];
+        base::put_words(table, at, &words);
+    }
+
+    ghost some_words = { lit< tt };
+
+    ghost all_words = { λ x. refl };
 }
 
-pub fn matrix_at(table: &[u64], at: usize) -> MatrixRecord
-    requires { at + matrix_width ≤ length table.now }
-    ensures { result ≡ matrix_at table.now at }
-{
-    MatrixRecord {
-        form: table[at],
-        bandwidth: table[at + 1],
-        first: table[at + 2],
-        values: table[at + 3],
-        line: table[at + 4],
-    }
+impl Record for StepRecord {
+    ghost PART = { steps };
+
+    const PART: usize = table_layout::STEPS;
+
+    ghost kind = { λ r. r.steps };
+
+    ghost none = { no_step };
+
+    ghost is_none = { λ x h i. record { kind = h.0 i; target = h.1.0 i; amount = h.1.1.0 i; side = h.1.1.1.0 i; side_size = h.1.1.1.1.0 i; line = h.1.1.1.1.1 i } };
+
+    ghost has_none = { refl };
+
+    ghost has_part = { lit< tt };
+
+    ghost has_width = { refl };
+
+    ghost is_kind = { λ table v. unfold records_at in unfold places_of in refl };
 }
 
-pub fn value_at(table: &[u64], at: usize) -> Value
-    requires { at + value_width ≤ length table.now }
-    ensures { result ≡ value_at table.now at }
-{
-    Value {
-        row: table[at],
-        column: table[at + 1],
-        word: table[at + 2],
+impl Words for MapRecord {
+    ghost WIDTH = { map_width };
+
+    const WIDTH: usize = table_layout::MAP_WIDTH;
+
+    ghost words = { map_words };
+
+    ghost stands = { map_at };
+
+    fn at(table: &[u64], at: usize) -> Self {
+        Self {
+            start: table[at],
+            size: table[at + 1],
+            order: table[at + 2],
+            rows: table[at + 3],
+            columns: table[at + 4],
+            first: table[at + 5],
+            pins: table[at + 6],
+        }
     }
+
+    fn put_at(self, table: &mut [u64], at: usize) {
+        let words = [
+            self.start,
+            self.size,
+            self.order,
+            self.rows,
+            self.columns,
+            self.first,
+            self.pins,
+        ];
+        base::put_words(table, at, &words);
+    }
+
+    ghost some_words = { lit< tt };
+
+    ghost all_words = { λ x. refl };
+}
+
+impl Record for MapRecord {
+    ghost PART = { maps };
+
+    const PART: usize = table_layout::MAPS;
+
+    ghost kind = { λ r. r.maps };
+
+    ghost none = { no_map };
+
+    ghost is_none = { λ x h i. record { start = h.0 i; size = h.1.0 i; order = h.1.1.0 i; rows = h.1.1.1.0 i; columns = h.1.1.1.1.0 i; first = h.1.1.1.1.1.0 i; pins = h.1.1.1.1.1.1 i } };
+
+    ghost has_none = { refl };
+
+    ghost has_part = { lit< tt };
+
+    ghost has_width = { refl };
+
+    ghost is_kind = { λ table v. unfold records_at in unfold places_of in refl };
+}
+
+impl Words for PinRecord {
+    ghost WIDTH = { pin_width };
+
+    const WIDTH: usize = table_layout::PIN_WIDTH;
+
+    ghost words = { pin_words };
+
+    ghost stands = { pin_at };
+
+    fn at(table: &[u64], at: usize) -> Self {
+        Self {
+            start: table[at],
+            size: table[at + 1],
+        }
+    }
+
+    fn put_at(self, table: &mut [u64], at: usize) {
+        let words = [self.start, self.size];
+        base::put_words(table, at, &words);
+    }
+
+    ghost some_words = { lit< tt };
+
+    ghost all_words = { λ x. refl };
+}
+
+impl Record for PinRecord {
+    ghost PART = { pins };
+
+    const PART: usize = table_layout::PINS;
+
+    ghost kind = { λ r. r.pins };
+
+    ghost none = { to_pin [] };
+
+    ghost is_none = { λ x h i. record { start = h.0 i; size = h.1 i } };
+
+    ghost has_none = { refl };
+
+    ghost has_part = { lit< tt };
+
+    ghost has_width = { refl };
+
+    ghost is_kind = { λ table v. unfold records_at in unfold places_of in refl };
+}
+
+impl Words for SectionRecord {
+    ghost WIDTH = { section_width };
+
+    const WIDTH: usize = table_layout::SECTION_WIDTH;
+
+    ghost words = { section_words };
+
+    ghost stands = { section_at };
+
+    fn at(table: &[u64], at: usize) -> Self {
+        Self {
+            start: table[at],
+            size: table[at + 1],
+            method: table[at + 2],
+            conductors: table[at + 3],
+            resistance: table[at + 4],
+            inductance: table[at + 5],
+            conductance: table[at + 6],
+            capacitance: table[at + 7],
+        }
+    }
+
+    fn put_at(self, table: &mut [u64], at: usize) {
+        let words = [
+            self.start,
+            self.size,
+            self.method,
+            self.conductors,
+            self.resistance,
+            self.inductance,
+            self.conductance,
+            self.capacitance,
+        ];
+        base::put_words(table, at, &words);
+    }
+
+    ghost some_words = { lit< tt };
+
+    ghost all_words = { λ x. refl };
+}
+
+impl Record for SectionRecord {
+    ghost PART = { sections };
+
+    const PART: usize = table_layout::SECTIONS;
+
+    ghost kind = { λ r. r.sections };
+
+    ghost none = { no_section };
+
+    ghost is_none = { λ x h i. record { start = h.0 i; size = h.1.0 i; method = h.1.1.0 i; conductors = h.1.1.1.0 i; resistance = h.1.1.1.1.0 i; inductance = h.1.1.1.1.1.0 i; conductance = h.1.1.1.1.1.1.0 i; capacitance = h.1.1.1.1.1.1.1 i } };
+
+    ghost has_none = { refl };
+
+    ghost has_part = { lit< tt };
+
+    ghost has_width = { refl };
+
+    ghost is_kind = { λ table v. unfold records_at in unfold places_of in refl };
+}
+
+impl Words for MatrixRecord {
+    ghost WIDTH = { matrix_width };
+
+    const WIDTH: usize = table_layout::MATRIX_WIDTH;
+
+    ghost words = { matrix_words };
+
+    ghost stands = { matrix_at };
+
+    fn at(table: &[u64], at: usize) -> Self {
+        Self {
+            form: table[at],
+            bandwidth: table[at + 1],
+            first: table[at + 2],
+            values: table[at + 3],
+            line: table[at + 4],
+        }
+    }
+
+    fn put_at(self, table: &mut [u64], at: usize) {
+        let words = [
+            self.form,
+            self.bandwidth,
+            self.first,
+            self.values,
+            self.line,
+        ];
+        base::put_words(table, at, &words);
+    }
+
+    ghost some_words = { lit< tt };
+
+    ghost all_words = { λ x. refl };
+}
+
+impl Record for MatrixRecord {
+    ghost PART = { matrices };
+
+    const PART: usize = table_layout::MATRICES;
+
+    ghost kind = { λ r. r.matrices };
+
+    ghost none = { no_matrix };
+
+    ghost is_none = { λ x h i. record { form = h.0 i; bandwidth = h.1.0 i; first = h.1.1.0 i; values = h.1.1.1.0 i; line = h.1.1.1.1 i } };
+
+    ghost has_none = { refl };
+
+    ghost has_part = { lit< tt };
+
+    ghost has_width = { refl };
+
+    ghost is_kind = { λ table v. unfold records_at in unfold places_of in refl };
+}
+
+impl Words for Value {
+    ghost WIDTH = { value_width };
+
+    const WIDTH: usize = table_layout::VALUE_WIDTH;
+
+    ghost words = { value_words };
+
+    ghost stands = { value_at };
+
+    fn at(table: &[u64], at: usize) -> Self {
+        Self {
+            row: table[at],
+            column: table[at + 1],
+            word: table[at + 2],
+        }
+    }
+
+    // Three writes, with no row made first: this one is in the loop that reads numbers.
+    fn put_at(self, table: &mut [u64], at: usize) {
+        table[at] = self.row;
+        table[at + 1] = self.column;
+        table[at + 2] = self.word;
+    }
+
+    ghost some_words = { lit< tt };
+
+    ghost all_words = { λ x. refl };
+}
+
+impl Record for Value {
+    ghost PART = { values };
+
+    const PART: usize = table_layout::VALUES;
+
+    ghost kind = { λ r. r.values };
+
+    ghost none = { no_value };
+
+    ghost is_none = { λ x h i. record { row = h.0 i; column = h.1.0 i; word = h.1.1 i } };
+
+    ghost has_none = { refl };
+
+    ghost has_part = { lit< tt };
+
+    ghost has_width = { refl };
+
+    ghost is_kind = { λ table v. unfold records_at in unfold places_of in refl };
 }
 
 // ---- the record of an index, by the view of the table
 
-pub fn nth_model(table: &[u64], view: View, index: u64) -> ModelRecord
-    requires { Rooms table.now view × (index < count_of view models) }
-    ensures { result ≡ get_or (records_of table.now).models index no_model }
+pub fn nth<R: Record>(table: &[u64], view: View, index: u64) -> R
+    requires { Rooms table.now view × (index < count_of view R.PART) }
+    ensures { result ≡ get_or (R.kind (records_of table.now)) index R.none }
 {
-    let bases = view.bases;
-    let at = bases[table_layout::MODELS] + table_layout::MODEL_WIDTH * (index as usize);
-    model_at(table, at)
-}
-
-pub fn nth_step(table: &[u64], view: View, index: u64) -> StepRecord
-    requires { Rooms table.now view × (index < count_of view steps) }
-    ensures { result ≡ get_or (records_of table.now).steps index no_step }
-{
-    let bases = view.bases;
-    let at = bases[table_layout::STEPS] + table_layout::STEP_WIDTH * (index as usize);
-    step_at(table, at)
-}
-
-pub fn nth_map(table: &[u64], view: View, index: u64) -> MapRecord
-    requires { Rooms table.now view × (index < count_of view maps) }
-    ensures { result ≡ get_or (records_of table.now).maps index no_map }
-{
-    let bases = view.bases;
-    let at = bases[table_layout::MAPS] + table_layout::MAP_WIDTH * (index as usize);
-    map_at(table, at)
-}
-
-pub fn nth_section(table: &[u64], view: View, index: u64) -> SectionRecord
-    requires { Rooms table.now view × (index < count_of view sections) }
-    ensures { result ≡ get_or (records_of table.now).sections index no_section }
-{
-    let bases = view.bases;
-    let at = bases[table_layout::SECTIONS] + table_layout::SECTION_WIDTH * (index as usize);
-    section_at(table, at)
-}
-
-pub fn nth_matrix(table: &[u64], view: View, index: u64) -> MatrixRecord
-    requires { Rooms table.now view × (index < count_of view matrices) }
-    ensures { result ≡ get_or (records_of table.now).matrices index no_matrix }
-{
-    let bases = view.bases;
-    let at = bases[table_layout::MATRICES] + table_layout::MATRIX_WIDTH * (index as usize);
-    matrix_at(table, at)
-}
-
-pub fn nth_value(table: &[u64], view: View, index: u64) -> Value
-    requires { Rooms table.now view × (index < count_of view values) }
-    ensures { result ≡ get_or (records_of table.now).values index no_value }
-{
-    let bases = view.bases;
-    let at = bases[table_layout::VALUES] + table_layout::VALUE_WIDTH * (index as usize);
-    value_at(table, at)
-}
-
-// ---- the record of no index: all its words are 0
-
-pub fn no_model() -> ModelRecord
-    ensures { result ≡ no_model }
-{
-    ModelRecord {
-        start: 0,
-        size: 0,
-        kind: 0,
-        first: 0,
-        steps: 0,
-    }
-}
-
-pub fn no_step() -> StepRecord
-    ensures { result ≡ no_step }
-{
-    StepRecord {
-        kind: 0,
-        target: 0,
-        amount: 0,
-        side: 0,
-        side_size: 0,
-        line: 0,
-    }
-}
-
-pub fn no_map() -> MapRecord
-    ensures { result ≡ no_map }
-{
-    MapRecord {
-        start: 0,
-        size: 0,
-        order: 0,
-        rows: 0,
-        columns: 0,
-        first: 0,
-        pins: 0,
-    }
-}
-
-pub fn no_section() -> SectionRecord
-    ensures { result ≡ no_section }
-{
-    SectionRecord {
-        start: 0,
-        size: 0,
-        method: 0,
-        conductors: 0,
-        resistance: 0,
-        inductance: 0,
-        conductance: 0,
-        capacitance: 0,
-    }
-}
-
-pub fn no_matrix() -> MatrixRecord
-    ensures { result ≡ no_matrix }
-{
-    MatrixRecord {
-        form: 0,
-        bandwidth: 0,
-        first: 0,
-        values: 0,
-        line: 0,
-    }
-}
-
-pub fn no_value() -> Value
-    ensures { result ≡ no_value }
-{
-    Value {
-        row: 0,
-        column: 0,
-        word: 0,
-    }
-}
-
-// ---- a record stored at a word of a table
-
-pub fn put_model_at(table: &mut [u64], at: usize, model: ModelRecord)
-    requires { at + model_width ≤ length table.old }
-    ensures { table.new ≡ sets table.old at (model_words model) }
-{
-    let words = [
-        model.start,
-        model.size,
-        model.kind,
-        model.first,
-        model.steps,
-    ];
-    base::put_words(table, at, &words);
-}
-
-pub fn put_step_at(table: &mut [u64], at: usize, step: StepRecord)
-    requires { at + step_width ≤ length table.old }
-    ensures { table.new ≡ sets table.old at (step_words step) }
-{
-    let words = [
-        step.kind,
-        step.target,
-        step.amount,
-        step.side,
-        step.side_size,
-        step.line,
-    ];
-    base::put_words(table, at, &words);
-}
-
-// A value stored at word `at`.
-pub fn put_value_at(table: &mut [u64], at: usize, value: Value)
-    requires { at + value_width ≤ length table.old }
-    ensures { table.new ≡ sets table.old at (value_words value) }
-{
-    table[at] = value.row;
-    table[at + 1] = value.column;
-    table[at + 2] = value.word;
+    let at = view.bases[R::PART] + R::WIDTH * (index as usize);
+    R::at(table, at)
 }

@@ -1,56 +1,44 @@
 // Reads words from standard input, one a line, and prints each with its number: m and k, or rule 13 or 14.
-// At most 65,536 bytes are read. No contract says what is printed: the file `stdout` does.
+// At most 65,536 bytes are read, and what cannot be printed is left out. No contract says what is printed: the file
+// `stdout` does.
 #![tactic(auto)]
 
-use base::Class;
-use lex_number::Number;
+use lex_number::NumberError;
+use std::io::{self, Read};
+
+const MOST: usize = 65536;
 
 // Prints m and k, each with a minus sign if it is negative.
-fn print_value(word: u64) {
+fn print_value(rt: &impl Print, word: u64) {
     let d = lex_number::decimal_of(word);
-    if d.negative {
-        io::write_all(1, b"-");
-    }
-    io::print_decimal(1, d.size);
-    if d.shifted < 64 {
-        io::write_all(1, b" -");
-        io::print_decimal(1, 64 - d.shifted);
-        return;
-    }
-    io::write_all(1, b" ");
-    io::print_decimal(1, d.shifted - 64);
+    let sign = if d.negative { "-" } else { "" };
+    let _ = if d.shifted < 64 {
+        println!(rt; "{sign}{} -{}", d.size, 64 - d.shifted)
+    } else {
+        println!(rt; "{sign}{} {}", d.size, d.shifted - 64)
+    };
 }
 
-fn print_answer(answer: Number) {
-    match answer {
-        Number::Value(word) => print_value(word),
-        Number::Malformed => {
-            io::write_all(1, b"13");
+fn print_reading(rt: &impl Print, word: &[u8]) {
+    let _ = rt.write_all(word);
+    let _ = print!(rt; " ");
+    match lex_number::read_number(word) {
+        Ok(value) => print_value(rt, value),
+        Err(NumberError::Malformed) => {
+            let _ = println!(rt; "13");
         }
-        Number::Range => {
-            io::write_all(1, b"14");
+        Err(NumberError::Range) => {
+            let _ = println!(rt; "14");
         }
     }
 }
 
-fn print_reading(word: &[u8]) {
-    io::write_all(1, word);
-    io::write_all(1, b" ");
-    print_answer(lex_number::read_number(word));
-    io::write_all(1, b"\n");
-}
-
-fn print_readings(text: &[u8]) {
-    let mut at = 0;
-    while at < text.len() {
-        let end = base::skip(Class::Before(b'\n'), text, at);
-        print_reading(&text[at..end]);
-        at = end + 1;
+fn main(rt: HostRuntime) -> io::Result<()> {
+    let mut text = Vec::with_capacity(rt.alloc(), MOST)?;
+    // A read that fails ends the text.
+    let _ = rt.reader().take(MOST as u64).read_to_end(&mut text);
+    for line in text.split_inclusive(|b| *b == b'\n') {
+        print_reading(&rt, line.strip_suffix(b"\n").unwrap_or(line));
     }
-}
-
-fn main() {
-    let mut text = io::large_buffer();
-    let length = io::read_full(0, &mut text);
-    print_readings(&text[..length]);
+    Ok(())
 }

@@ -4,20 +4,21 @@
 //   FILE hash  the words used and a hash of the table
 //   FILE list  the listing
 // A table is not zero before the intake. An answer ends with `old words` if a word of that is left.
+// A word ends at a space or a TAB. What cannot be printed is left out.
 #![tactic(auto)]
 
-ghost use Rattle.std.specs.Prelude.{◌≤◌, length};
-
-use base::Class;
 use intake::Answer;
 use std::fs::File;
-use std::io::Read;
+use std::io::{self, Read};
 use std::rt::Files;
 
-// One byte more than a text may have, so that a longer text is recognized.
+// How much of standard input is read.
+const LINES: usize = 65536;
+
+// How much of a file is read: one byte more than a text may have, so that a longer text is recognized.
 const MOST: usize = 1048577;
 
-// The longest text that the listing program takes.
+// The longest text that the listing program takes, and the longest listing that is printed.
 const LISTED: usize = 65536;
 
 // The words of a table, and of the longest one that a line may ask for.
@@ -25,258 +26,130 @@ const WORDS: usize = 8192;
 
 const ROOM: usize = 250000;
 
-// The initial value of FNV-1a.
+// What a word of a table is before the intake.
+const OLD: u64 = 9;
+
+// The initial value of FNV-1a, and its prime.
 const BASIS: u64 = 14695981039346656037;
 
-fn print_refusal(rule: u64, line: u64) {
-    io::write_all(1, b" refused ");
-    io::print_decimal(1, rule);
-    io::write_all(1, b" ");
-    io::print_decimal(1, line);
+const PRIME: u64 = 1099511628211;
+
+// FNV-1a of a table, 64 bits: of each word's eight bytes, the least significant first.
+fn hash_table(table: &[u64]) -> u64 {
+    let mut hash = BASIS;
+    for word in table {
+        for byte in word.to_le_bytes() {
+            hash = (hash ^ u64::from(byte)).wrapping_mul(PRIME);
+        }
+    }
+    hash
 }
 
 // Ends an answer. A word from `from` on that is not zero is left from before the intake.
-fn print_end(table: &[u64], from: usize) {
-    let mut i = from;
-    while i < table.len() {
-        if table[i] != 0 {
-            io::write_all(1, b" old words");
-            break;
-        }
-        i += 1;
+fn print_end(rt: &impl Print, table: &[u64], from: usize) {
+    if table.iter().skip(from).any(|word| *word != 0) {
+        let _ = print!(rt; " old words");
     }
-    io::write_all(1, b"\n");
+    let _ = println!(rt; "");
 }
 
-fn print_answer(text: &[u8], table: &mut [u64]) {
+fn print_refusal(rt: &impl Print, rule: u64, line: u64, table: &[u64]) {
+    let _ = print!(rt; " refused {rule} {line}");
+    print_end(rt, table, 0);
+}
+
+fn print_answer(rt: &impl Print, text: &[u8], table: &mut [u64]) {
     match intake::intake(text, table) {
         Answer::Accepted(words) => {
-            io::write_all(1, b" accepted ");
-            io::print_decimal(1, words as u64);
-            print_end(table, words);
+            let _ = print!(rt; " accepted {words}");
+            print_end(rt, table, words);
         }
-        Answer::Refused(rule, line) => {
-            print_refusal(rule, line);
-            print_end(table, 0);
-        }
+        Answer::Refused(rule, line) => print_refusal(rt, rule, line, table),
     }
 }
 
-// The product with FNV's prime, 2^40 + 435, modulo 2^64. The halves of the number are multiplied one by one, so that no
-// product is too great.
-fn times_prime(hash: u64) -> u64 {
-    let low = hash % 4294967296 * 435;
-    let high = hash / 4294967296 * 435;
-    std::num::wrapping_add_u64(std::num::wrapping_add_u64(hash << 40, high << 32), low)
-}
-
-// Hashes a word's eight bytes, the least significant first.
-fn hash_word(before: u64, word: u64) -> u64 {
-    let mut hash = before;
-    let mut rest = word;
-    let mut i = 0usize;
-    while i < 8 {
-        hash = times_prime(hash ^ rest % 256);
-        rest /= 256;
-        i += 1;
-    }
-    hash
-}
-
-// FNV-1a of a table, 64 bits.
-fn hash_table(table: &[u64]) -> u64 {
-    let mut hash = BASIS;
-    let mut i = 0;
-    while i < table.len() {
-        hash = hash_word(hash, table[i]);
-        i += 1;
-    }
-    hash
-}
-
-fn print_hash(text: &[u8], table: &mut [u64]) {
+fn print_hash(rt: &impl Print, text: &[u8], table: &mut [u64]) {
     match intake::intake(text, table) {
         Answer::Accepted(words) => {
-            io::write_all(1, b" ");
-            io::print_decimal(1, words as u64);
-            io::write_all(1, b" ");
-            io::print_hex(1, hash_table(table), 16);
-            print_end(table, words);
+            let hash = hash_table(table);
+            let _ = print!(rt; " {words} {hash:016x}");
+            print_end(rt, table, words);
         }
-        Answer::Refused(rule, line) => {
-            print_refusal(rule, line);
-            print_end(table, 0);
-        }
+        Answer::Refused(rule, line) => print_refusal(rt, rule, line, table),
     }
 }
 
-// Prints the first `length` bytes of the room, or all of it if it is shorter.
-fn print_room(room: &[u8], length: usize) {
-    if room.len() < length {
-        io::write_all(1, room);
-        return;
-    }
-    io::write_all(1, &room[..length]);
-}
-
-fn print_listing(text: &[u8], table: &mut [u64], room: &mut [u8]) {
-    match intake::intake(text, table) {
-        Answer::Accepted(words) => {
-            let length = out_listing::write_listing(text, table, words, room);
-            print_room(room, length);
-        }
-        Answer::Refused(rule, line) => {
-            let length = out_listing::write_refusal(rule, line, room);
-            print_room(room, length);
-        }
-    }
-}
-
-// Room for any text, for a listing, and for tables that are not zero. Functions return the rooms so that no proof has
-// to look at all their words.
-fn text_room() -> [u8; MOST] {
-    [0u8; MOST]
-}
-
-fn listing_room() -> [u8; 65536] {
-    [0u8; 65536]
-}
-
-fn table_room() -> [u64; WORDS] {
-    [9u64; WORDS]
-}
-
-fn great_room() -> [u64; ROOM] {
-    [9u64; ROOM]
-}
-
-// The number of words asked for, at most ROOM.
-fn at_most_room(words: u64) -> usize
-    ensures { result ≤ 250_000 }
-{
-    let size = words as usize;
-    if ROOM < size {
-        return ROOM;
-    }
-    size
-}
-
-fn run_plain(text: &[u8]) {
-    if LISTED < text.len() {
-        io::write_all(1, b" toolong\n");
-        return;
-    }
-    let mut table = table_room();
-    print_answer(text, &mut table);
-}
-
-fn run_hash(text: &[u8]) {
-    let mut table = table_room();
-    print_hash(text, &mut table);
-}
-
-fn run_list(text: &[u8]) {
-    io::write_all(1, b"\n");
-    let mut table = table_room();
-    let mut room = listing_room();
-    print_listing(text, &mut table, &mut room);
-}
-
-fn run_room(text: &[u8], word: &[u8]) {
-    io::write_all(1, b" ");
-    io::write_all(1, word);
-    let whole = lex_number::read_integer(word);
-    let mut table = great_room();
-    let size = at_most_room(whole.value);
-    print_answer(text, &mut table[..size]);
+fn print_listing(rt: &impl Print, text: &[u8], table: &mut [u64], room: &mut [u8]) {
+    let length = match intake::intake(text, table) {
+        Answer::Accepted(words) => out_listing::write_listing(text, table, words, room),
+        Answer::Refused(rule, line) => out_listing::write_refusal(rule, line, room),
+    };
+    let _ = println!(rt; "");
+    let _ = rt.write_all(&room[..length.min(room.len())]);
 }
 
 // Does what the second word of a line asks for, if there is one.
-fn run_text(text: &[u8], word: &[u8]) {
-    if word.len() == 0 {
-        run_plain(text);
-        return;
+fn run_text<R: Print + AllocGlobal>(rt: &R, text: &[u8], asked: Option<&[u8]>) -> io::Result<()> {
+    let alloc = rt.alloc();
+    match asked {
+        None if LISTED < text.len() => {
+            let _ = println!(rt; " toolong");
+        }
+        None => print_answer(rt, text, &mut vec![in alloc; OLD; WORDS]?),
+        Some(b"hash") => print_hash(rt, text, &mut vec![in alloc; OLD; WORDS]?),
+        Some(b"list") => print_listing(
+            rt,
+            text,
+            &mut vec![in alloc; OLD; WORDS]?,
+            &mut vec![in alloc; 0u8; LISTED]?,
+        ),
+        Some(word) => {
+            let _ = print!(rt; " ");
+            let _ = rt.write_all(word);
+            // As in a text, a word of more than nine digits is no number.
+            let words = lex_number::read_integer(word).unwrap_or(0);
+            print_answer(
+                rt,
+                text,
+                &mut vec![in alloc; OLD; ROOM.min(words as usize)]?,
+            );
+        }
     }
-    if lex_line::same_bytes(word, b"hash") {
-        run_hash(text);
-        return;
-    }
-    if lex_line::same_bytes(word, b"list") {
-        run_list(text);
-        return;
-    }
-    run_room(text, word);
-}
-
-// Prints the name of a file without its ending, `.icm`.
-fn print_name(file: &[u8]) {
-    if file.len() < 4 {
-        return;
-    }
-    let end = file.len() - 4;
-    io::write_all(1, &file[..end]);
+    Ok(())
 }
 
 // Opens a file to read; none if its name is not UTF-8 or it cannot be opened.
 fn open<R: Files>(rt: &R, name: &[u8]) -> Option<R::File> {
-    match str::from_utf8(name) {
-        Ok(path) => File::open(rt, path).ok(),
-        Err(_) => None,
-    }
+    File::open(rt, str::from_utf8(name).ok()?).ok()
 }
 
-// Reads until the room is full, the file ends or a read fails, and returns how many bytes were read.
-fn read_full<F: Read>(file: &mut F, room: &mut [u8]) -> usize
-    ensures { result ≤ length room.new }
-{
-    let mut done = 0;
-    while done < room.len() {
-        match file.read(&mut room[done..]) {
-            Ok(count) if 0 < count => done += count,
-            _ => break,
-        }
-    }
-    done
+// The first `most` bytes, or fewer if they end before or a read fails.
+fn read_most<R: AllocGlobal>(rt: &R, from: impl Read + Drop, most: usize) -> io::Result<Vec<u8>> {
+    let mut bytes = Vec::with_capacity(rt.alloc(), most)?;
+    let _ = from.take(most as u64).read_to_end(&mut bytes);
+    Ok(bytes)
 }
 
-fn run_opened<F: Read + Drop>(mut file: F, word: &[u8]) {
-    let mut text = text_room();
-    let count = read_full(&mut file, &mut text);
-    run_text(&text[..count], word);
-}
-
-fn run_file<R: Files>(rt: &R, name: &[u8], word: &[u8]) {
-    print_name(name);
+fn run_line<R: Files + Print + AllocGlobal>(rt: &R, line: &[u8]) -> io::Result<()> {
+    let mut words = line
+        .split(|b| *b == b' ' || *b == b'\t')
+        .filter(|word| !word.is_empty());
+    let name = words.next().unwrap_or(b"");
+    // A name is printed without its ending, `.icm` or any other four bytes.
+    let _ = rt.write_all(&name[..name.len().saturating_sub(4)]);
     match open(rt, name) {
-        Some(file) => run_opened(file, word),
+        Some(file) => run_text(rt, &read_most(rt, file, MOST)?, words.next()),
         None => {
-            io::write_all(1, b" cannot be read\n");
+            let _ = println!(rt; " cannot be read");
+            Ok(())
         }
     }
 }
 
-fn run_line<R: Files>(rt: &R, line: &[u8]) {
-    let few = lex_line::first_two_words(line);
-    let first = few.first;
-    let second = few.second;
-    run_file(
-        rt,
-        lex_line::marked(line, first),
-        lex_line::marked(line, second),
-    );
-}
-
-fn run_lines<R: Files>(rt: &R, lines: &[u8]) {
-    let mut at = 0;
-    while at < lines.len() {
-        let end = base::skip(Class::Before(b'\n'), lines, at);
-        run_line(rt, &lines[at..end]);
-        at = end + 1;
+fn main(rt: HostRuntime) -> io::Result<()> {
+    let lines = read_most(&rt, rt.reader(), LINES)?;
+    for line in lines.split_inclusive(|b| *b == b'\n') {
+        run_line(&rt, line.strip_suffix(b"\n").unwrap_or(line))?;
     }
-}
-
-fn main(rt: HostRuntime) {
-    let mut lines = io::large_buffer();
-    let length = io::read_full(0, &mut lines);
-    run_lines(&rt, &lines[..length]);
+    Ok(())
 }

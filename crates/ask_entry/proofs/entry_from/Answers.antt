@@ -7,8 +7,8 @@ use Rattle.ask_entry.proofs.entry_from.Goals as goal
 pub returns-then-not-is_in_range : goal.returns-then-not-is_in_range
 returns-then-not-is_in_range c = search from_no_such
 
-pub nth_section-record-requires : goal.nth_section-record-requires
-nth_section-record-requires c = search (rules, from_section_lem)
+pub nth-record-requires : goal.nth-record-requires
+nth-record-requires c = search (rules, from_section_lem)
 
 pub entry_in-requires : goal.entry_in-requires
 entry_in-requires c = search (rules, from_matrix)

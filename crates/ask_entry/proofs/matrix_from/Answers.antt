@@ -8,8 +8,8 @@ use Rattle.ask_entry.proofs.matrix_from.Goals as goal
 pub returns-then-not-is_in_range : goal.returns-then-not-is_in_range
 returns-then-not-is_in_range c = (search whole_no_such, search room_refused)
 
-pub nth_section-record-requires : goal.nth_section-record-requires
-nth_section-record-requires c = search (rules, from_section_lem)
+pub nth-record-requires : goal.nth-record-requires
+nth-record-requires c = search (rules, from_section_lem)
 
 pub overflow_mul-conductors : goal.overflow_mul-conductors
 overflow_mul-conductors c = search (square_fits, from_few)

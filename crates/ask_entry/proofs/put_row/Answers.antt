@@ -4,8 +4,8 @@ use Rattle.ask_entry.proofs.put_row.Goals as goal
 pub loop-column-init : goal.loop-column-init
 loop-column-init c = search row_starts
 
-pub bounds-values-to : goal.bounds-values-to
-bounds-values-to c = search row_room
+pub bounds-values-at : goal.bounds-values-at
+bounds-values-at c = search row_room
 
 pub loop-column-preserved : goal.loop-column-preserved
 loop-column-preserved c = search row_on

@@ -1,12 +1,8 @@
 -- `ask_entry::put_row` meets its contract. The loop's invariant: the entries of the row still to store, stored, give what all of them give.
 -- Assumes nothing.
-use Prim.Native.Nat.{◌+◌, ◌-◌}
 use Rattle.table_record.specs.Records.{records_of}
 use Rattle.ask_entry.proofs.RowLaws.{RowLeft}
 use Rattle.ask_entry.proofs.put_row.Given as goal
 
 abbrev pub invariant-loop-column : goal.invariant-loop-column
-invariant-loop-column l = RowLeft (records_of l.table) l.index l.row l.conductors l.initial.values l.at l.values l.column l.to
-
-abbrev pub decreases-loop-column : goal.decreases-loop-column
-decreases-loop-column l = l.conductors + 1 - l.column
+invariant-loop-column l = RowLeft (records_of l.table) l.index l.row l.conductors l.initial.values l.at l.values l.column

@@ -1,12 +1,8 @@
 -- `ask_entry::put_rows` meets its contract. The loop's invariant: the rows still to store, stored, give what all of them give.
 -- Assumes nothing.
-use Prim.Native.Nat.{◌+◌, ◌-◌}
 use Rattle.table_record.specs.Records.{records_of}
 use Rattle.ask_entry.proofs.RowLaws.{RowsLeft}
 use Rattle.ask_entry.proofs.put_rows.Given as goal
 
 abbrev pub invariant-loop-row : goal.invariant-loop-row
-invariant-loop-row l = RowsLeft (records_of l.table) l.index l.conductors l.initial.values l.values l.row l.to
-
-abbrev pub decreases-loop-row : goal.decreases-loop-row
-decreases-loop-row l = l.conductors + 1 - l.row
+invariant-loop-row l = RowsLeft (records_of l.table) l.index l.conductors l.initial.values l.values l.row

@@ -1,11 +1,7 @@
 -- `ask_sound::depth_holds` meets its contract. The loop's invariant: the steps left give what all of them give.
 -- Assumes nothing.
-use Prim.Native.Nat.{◌-◌}
 use Rattle.ask_sound.proofs.LoopLaws.{DepthLeft}
 use Rattle.ask_sound.proofs.depth_holds.Given as goal
 
 abbrev pub invariant-loop-i : goal.invariant-loop-i
-invariant-loop-i l = DepthLeft l.table l.from l.many l.depth l.at l.i
-
-abbrev pub decreases-loop-i : goal.decreases-loop-i
-decreases-loop-i l = l.many - l.i
+invariant-loop-i l = DepthLeft l.table l.from l.many l.depth l.i

@@ -5,6 +5,3 @@ use Rattle.ask_sound.proofs.find_reaches.Given as goal
 
 abbrev pub invariant-loop-i : goal.invariant-loop-i
 invariant-loop-i l = Found l.table l.from l.count l.blocks l.reach l.i
-
-abbrev pub decreases-loop-i : goal.decreases-loop-i
-decreases-loop-i l = l.i

@@ -12,7 +12,7 @@ pub returns-then-not-goes_on : goal.returns-then-not-goes_on
 returns-then-not-goes_on c = search rise_refused
 
 pub loop-i-preserved : goal.loop-i-preserved
-loop-i-preserved c = rise_on _ _ _ _ _ c.loop-i.invariant c.loop-i-test.true _ c.goes_on.ensures c.if-not-goes_on.false-raw
+loop-i-preserved c = search rise_on
 
 pub returns : goal.returns
 returns c = search rise_ends

@@ -1,5 +1,3 @@
--- `base::is_blank` meets its contract: each `return` by the tests that led there.
--- Assumes nothing.
 use Rattle.base.specs.Bytes.{is_blank}
 use Rattle.base.proofs.IfLaws.{ifs, either_rest}
 use Rattle.base.proofs.is_blank.Goals as goal
@@ -8,6 +6,6 @@ pub returns-then-b-eq32 : goal.returns-then-b-eq32
 unfolding is_blank
 returns-then-b-eq32 c = search ifs
 
-pub returns : goal.returns
+pub returns-else-b-eq32 : goal.returns-else-b-eq32
 unfolding is_blank
-returns c = search (ifs, either_rest)
+returns-else-b-eq32 c = search (ifs, either_rest)

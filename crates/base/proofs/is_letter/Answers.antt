@@ -1,13 +1,7 @@
--- `base::is_letter` meets its contract: each `return` by what the two classes answered.
--- Assumes nothing.
-use Rattle.base.specs.Bytes.{is_letter}
-use Rattle.base.proofs.IfLaws.{chain}
+use Rattle.base.specs.Bytes.{is_letter, is_capital, is_small, within}
+use Rattle.base.proofs.IfLaws.{both_and, either_or}
 use Rattle.base.proofs.is_letter.Goals as goal
 
-pub returns-then-is_capital : goal.returns-then-is_capital
-unfolding is_letter
-returns-then-is_capital c = search chain
-
 pub returns : goal.returns
-unfolding is_letter
-returns c = search chain
+unfolding is_letter is_capital is_small within
+returns c = rw (either_or, both_and, both_and) c.is_ascii_alphabetic.ensures.value

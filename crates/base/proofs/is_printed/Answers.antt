@@ -1,6 +1,4 @@
--- `base::is_printed` meets its contract: each `return` by the tests that led there.
--- Assumes nothing.
-use Rattle.base.specs.Bytes.{within, is_printed}
+use Rattle.base.specs.Bytes.{is_printed, within}
 use Rattle.base.proofs.IfLaws.{ifs, both_rest, either_comes}
 use Rattle.base.proofs.is_printed.Goals as goal
 
@@ -8,10 +6,10 @@ pub returns-then-b-eq9 : goal.returns-then-b-eq9
 unfolding is_printed within
 returns-then-b-eq9 c = search ifs
 
-pub returns-then-b-lt32 : goal.returns-then-b-lt32
+pub returns-then-b-ge32 : goal.returns-then-b-ge32
 unfolding is_printed within
-returns-then-b-lt32 c = search ifs
+returns-then-b-ge32 c = search (ifs, both_rest, either_comes)
 
-pub returns : goal.returns
+pub returns-else-b-ge32 : goal.returns-else-b-ge32
 unfolding is_printed within
-returns c = search (ifs, both_rest, either_comes)
+returns-else-b-ge32 c = search ifs

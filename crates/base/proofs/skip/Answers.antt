@@ -1,12 +1,6 @@
-use borrow.Author.Rules.{rules}
-use Rattle.base.proofs.RunLaws.{tested_on, tested_stop, reach_past}
+use Rattle.base.proofs.RunLaws.{run_past}
 use Rattle.base.proofs.skip.Goals as goal
+use native.Mathlib.Omega.{arith}
 
-pub returns-then-not-in_class : goal.returns-then-not-in_class
-returns-then-not-in_class c = search tested_stop
-
-pub loop-i-preserved : goal.loop-i-preserved
-loop-i-preserved c = search (rules, tested_on)
-
-pub returns : goal.returns
-returns c = search reach_past
+pub returns-then-s-from : goal.returns-then-s-from
+returns-then-s-from g c = let past = run_past (g.C.ByteClass.holds c.args.class) c.args.s.now c.args.from c.if-s-from.true in omega (arith, past)

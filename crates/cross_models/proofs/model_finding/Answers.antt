@@ -3,7 +3,7 @@ use lib.ListN.{length-replicate}
 use Rattle.table_layout.specs.Bounds.{most_models}
 use Rattle.table_name.specs.Way.Hash.{marks_many}
 use Rattle.cross_rules.proofs.TableLaws.{text_rooms}
-use Rattle.cross_models.proofs.WalkLaws.{models_start, models_end, there, index_fits, model_breaks, steps_break, models_on}
+use Rattle.cross_models.proofs.WalkLaws.{models_start, models_end, there, model_breaks, steps_break, models_on}
 use borrow.Author.Rules.{rules}
 use Rattle.cross_models.proofs.model_finding.Goals as goal
 
@@ -21,9 +21,6 @@ steps_finding-found-requires c = search (rules, there)
 
 pub returns-then-found-ne0 : goal.returns-then-found-ne0
 returns-then-found-ne0 c = search steps_break
-
-pub overflow_add-i : goal.overflow_add-i
-overflow_add-i c = search index_fits
 
 pub loop-i-preserved : goal.loop-i-preserved
 loop-i-preserved c = models_on _ _ c.requires.0 _ c.requires.1 _ _ c.loop-i.invariant (search rules) _ c.requires.3 _

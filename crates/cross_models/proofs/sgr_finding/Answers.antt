@@ -4,8 +4,8 @@ use Rattle.cross_models.proofs.sgr_finding.Goals as goal
 pub loop-i-init : goal.loop-i-init
 loop-i-init c = search sgr_start
 
-pub model_at-staged-requires : goal.model_at-staged-requires
-model_at-staged-requires c = search sgr_inside
+pub at-staged-requires : goal.at-staged-requires
+at-staged-requires c = search sgr_inside
 
 pub returns-then-is_wrong_sgr : goal.returns-then-is_wrong_sgr
 returns-then-is_wrong_sgr c = search sgr_breaks

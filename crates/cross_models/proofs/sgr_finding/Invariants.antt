@@ -1,11 +1,7 @@
 -- `cross_models::sgr_finding` meets its contract. The loop's invariant: the models left give the first wrong SGR of all.
 -- Assumes nothing.
-use Prim.Native.Nat.{◌-◌}
 use Rattle.cross_models.proofs.SgrLaws.{SgrLeft}
 use Rattle.cross_models.proofs.sgr_finding.Given as goal
 
 abbrev pub invariant-loop-i : goal.invariant-loop-i
-invariant-loop-i l = SgrLeft l.models l.count l.i l.from
-
-abbrev pub decreases-loop-i : goal.decreases-loop-i
-decreases-loop-i l = l.count - l.i
+invariant-loop-i l = SgrLeft l.models l.count l.i

@@ -13,8 +13,8 @@ loop-i-init c = search steps_start
 pub overflow_add-here : goal.overflow_add-here
 overflow_add-here c = search place_fits
 
-pub nth_step-own-requires : goal.nth_step-own-requires
-nth_step-own-requires c = search (rules, text_rooms)
+pub nth-own-requires : goal.nth-own-requires
+nth-own-requires c = search (rules, text_rooms)
 
 pub is_mult-mult-requires : goal.is_mult-mult-requires
 is_mult-mult-requires c = search staged_inside

@@ -1,11 +1,7 @@
 -- `cross_models::steps_finding` meets its contract. The loop's invariant: what is left of the steps, with the models behind, gives the whole.
 -- Assumes nothing.
-use Prim.Native.Nat.{◌-◌}
 use Rattle.cross_models.proofs.StepsLaws.{StepsLeft}
 use Rattle.cross_models.proofs.steps_finding.Given as goal
 
 abbrev pub invariant-loop-i : goal.invariant-loop-i
 invariant-loop-i l = StepsLeft l.text l.table l.view l.marks l.index l.owner l.count l.i
-
-abbrev pub decreases-loop-i : goal.decreases-loop-i
-decreases-loop-i l = l.count - l.i

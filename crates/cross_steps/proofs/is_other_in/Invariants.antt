@@ -1,6 +1,5 @@
 -- `cross_steps::is_other_in` meets its contract. The loop's invariant: the matrices left give what all of them give.
 -- Assumes nothing.
-use Prim.Native.Nat.{◌-◌}
 use Rattle.cross_steps.specs.Way.StepWords.{other_in}
 use Rattle.cross_steps.proofs.RangeLaws.{Left}
 use Rattle.table_record.specs.Records.{records_of, range}
@@ -8,6 +7,3 @@ use Rattle.cross_steps.proofs.is_other_in.Given as goal
 
 abbrev pub invariant-loop-i : goal.invariant-loop-i
 invariant-loop-i l = Left other_in (range l.from l.count (records_of l.table).matrices) l.i
-
-abbrev pub decreases-loop-i : goal.decreases-loop-i
-decreases-loop-i l = l.count - l.i

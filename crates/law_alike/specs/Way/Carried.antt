@@ -1,7 +1,7 @@
 -- When the lines of a matrix, below its opening line, write the entries v i j, 1 <= i <= j <= n, in each of the four
 -- forms. Nothing is said of how the numbers are spelled, cut into lines or parted by blanks.
 -- Assumes nothing.
-use Rattle.std.specs.Prelude.{ℕ, zero, suc, ◌+◌, ◌-◌, ◌≤◌, ◌<◌, min, ◌≡◌, List, [], ◌∷◌, ◌++◌, map}
+use Rattle.std.specs.Prelude.{ℕ, zero, suc, ◌+◌, ◌-◌, ◌≤◌, ◌<◌, min, ◌≡◌, List, [], ◌∷◌, ◌++◌, map, unwrap_or}
 use Rattle.table_layout.specs.Codes.{diagonal, banded, sparse, full}
 use Rattle.lex_line.specs.Words.{words, first_of, second_of}
 use Rattle.lex_number.specs.Number.{number_of, word_in}
@@ -44,7 +44,7 @@ pub data Pairs (v : ℕ → ℕ → ℕ) (n i : ℕ) : ℕ → List Line → Typ
   ended : {c : ℕ} → ((j : ℕ) → c ≤ j → j ≤ n → v i j ≡ zero_word) → Pairs v n i c []
   pair :
       {c : ℕ} {l : Line} {ls : List Line} (j : ℕ) → c ≤ j → j ≤ n → key_of l ≡ plain →
-      (whole_of (first_of (words l.content))).value ≡ j → value_of (second_of (words l.content)) ≡ v i j →
+      unwrap_or (whole_of (first_of (words l.content))) 0 ≡ j → value_of (second_of (words l.content)) ≡ v i j →
       ((k : ℕ) → c ≤ k → k < j → v i k ≡ zero_word) → Pairs v n i (suc j) ls → Pairs v n i c (l ∷ ls)
 
 -- "rising [Row]s", here from row i on; the entries of a row that is not there are zero

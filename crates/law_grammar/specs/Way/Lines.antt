@@ -1,7 +1,7 @@
 -- The lines of one set, from below the keyword that opens a matrix to the one that closes it: the rows that they write,
 -- and the reading of them, line by line.
 -- Assumes nothing.
-use Rattle.std.specs.Prelude.{ℕ, ◌+◌, ◌≤◌, ◌≡◌, false, List, [], ◌∷◌, length, eqb}
+use Rattle.std.specs.Prelude.{ℕ, ◌+◌, ◌≤◌, ◌≡◌, false, List, [], ◌∷◌, length, eqb, unwrap_or}
 use Rattle.table_layout.specs.Codes.{diagonal, banded, sparse, full}
 use Rattle.table_layout.specs.Bounds.{most_conductors}
 use Rattle.base.specs.If.{provided◌then◌else◌}
@@ -47,7 +47,7 @@ unfoldable pub columns_above : List Entry → List ℕ
 columns_above [] = []
 columns_above (Entry.row_entry i ∷ entries) = []
 columns_above (Entry.bandwidth_entry b ∷ entries) = columns_above entries
-columns_above (Entry.data_entry content ∷ entries) = (whole_of (first_of (words content))).value ∷ columns_above entries
+columns_above (Entry.data_entry content ∷ entries) = (unwrap_or (whole_of (first_of (words content))) 0) ∷ columns_above entries
 
 unfoldable pub sparse_rows_of : List Entry → List SparseRow
 sparse_rows_of [] = []

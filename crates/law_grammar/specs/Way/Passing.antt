@@ -1,7 +1,7 @@
 -- The lines of a path and of one set of a matrix as the reading of a text meets them: the rules of each line in its place,
 -- and the state after it. Blank lines are left out.
 -- Assumes nothing.
-use Rattle.std.specs.Prelude.{ℕ, ◌≡◌, false, List, [], ◌∷◌}
+use Rattle.std.specs.Prelude.{ℕ, ◌≡◌, false, List, [], ◌∷◌, unwrap_or}
 use Rattle.base.specs.Broken.{first_broken}
 use Rattle.lex_number.specs.Integer.{whole_of}
 use Rattle.lex_keyword.specs.Names.{row, bandwidth}
@@ -26,8 +26,8 @@ pub data MatrixLine : Type 0 where
 -- what the lines write
 unfoldable pub entries_of : List MatrixLine → List Entry
 entries_of [] = []
-entries_of (MatrixLine.row_line argument ∷ lines) = Entry.row_entry (whole_of argument).value ∷ entries_of lines
-entries_of (MatrixLine.bandwidth_line argument ∷ lines) = Entry.bandwidth_entry (whole_of argument).value ∷ entries_of lines
+entries_of (MatrixLine.row_line argument ∷ lines) = Entry.row_entry (unwrap_or (whole_of argument) 0) ∷ entries_of lines
+entries_of (MatrixLine.bandwidth_line argument ∷ lines) = Entry.bandwidth_entry (unwrap_or (whole_of argument) 0) ∷ entries_of lines
 entries_of (MatrixLine.data_line content ∷ lines) = Entry.data_entry content ∷ entries_of lines
 
 -- no line breaks a rule; they lead to the state `last`

@@ -1,18 +1,13 @@
-use borrow.Author.Rules.{rules}
-use Rattle.lex_keyword.proofs.WordLaws.{parting_first, parting_end, parting_bad, parting_next, parting_last}
+use Rattle.std.proofs.Common.{rules, tests, ◌≡◌, true, false}
+use Rattle.std.proofs.lemmas.Iterator.{cases_from_all}
+use Rattle.std.proofs.lemmas.Iterator.Splits.{YieldsList-from_slice_split}
+use Rattle.lex_keyword.specs.Bracket.{is_good_word, is_separator}
+use Rattle.lex_keyword.proofs.WordLaws.{words_by_cases}
 use Rattle.lex_keyword.proofs.are_good_words.Goals as goal
 
-pub loop-end-init : goal.loop-end-init
-loop-end-init c = search parting_first
-
-pub returns-then-not-is_good_word : goal.returns-then-not-is_good_word
-returns-then-not-is_good_word c = search parting_bad
-
-pub loop-end-preserved : goal.loop-end-preserved
-loop-end-preserved c = search (rules, parting_next)
-
-pub slice_bounds-is_good_word-end-2 : goal.slice_bounds-is_good_word-end-2
-slice_bounds-is_good_word-end-2 c = search parting_end
-
 pub returns : goal.returns
-returns c = search parting_last
+returns c =
+    words_by_cases _ _
+    (cases_from_all _ _ _ (λ w. is_good_word w ≡ true) (λ w. is_good_word w ≡ false) c.all.ensures.ran
+    (YieldsList-from_slice_split _ is_separator _ c.split.ensures.rest c.split.ensures.done c.split.ensures.closure (λ b t f called. search (rules, tests)))
+    (λ w f called. search (rules, tests)) (λ w f called. search (rules, tests)))

@@ -9,4 +9,4 @@ use Rattle.lex_keyword.proofs.first_of.Goals as goal
 
 pub returns : goal.returns
 unfolding first_of_size shorter provided◌then◌else◌
-returns c = c.from_byte.ensures ∙ listed_at first_of_size 0 24 c.args.size (search rules)
+returns c = c.from.ensures ∙ listed_at first_of_size 0 24 c.args.size (search rules)

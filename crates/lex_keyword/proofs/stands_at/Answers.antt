@@ -1,4 +1,4 @@
-use borrow.Author.Rules.{rules}
+use Rattle.std.proofs.Common.{rules}
 use Rattle.lex_keyword.proofs.LookupLaws.{stands_first, stands_on, stands_stop, stands_past}
 use Rattle.lex_keyword.proofs.stands_at.Goals as goal
 

@@ -8,4 +8,4 @@ use Rattle.lex_keyword.proofs.start_of.Goals as goal
 
 pub returns : goal.returns
 unfolding start_of joined_names
-returns c = c.from_short.ensures ∙ listed_at start_of 0 40 c.args.key (search rules)
+returns c = c.from.ensures ∙ listed_at start_of 0 40 c.args.key (search rules)

@@ -6,17 +6,13 @@ use Rattle.base.specs.If.{provided◌then◌else◌, both, either}
 use Rattle.base.specs.Bytes.{is_blank}
 use Rattle.base.specs.Runs.{run}
 use Rattle.lex_keyword.specs.Names.{keyword_of}
-use Rattle.lex_keyword.specs.Bracket.{is_open, is_separator, is_good_name, named_as}
+use Rattle.lex_keyword.specs.Bracket.{is_open, is_good_name, named_as}
 use Rattle.lex_keyword.specs.declared.Bracket.{Bracket}
 use Rattle.lex_keyword.specs.declared.Bracket.TheVariants.{Bad}
 
 -- the first byte that is not blank is a `[`, so the line is not plain
 unfoldable pub opens_line : List ℕ → Bool
 opens_line content = is_open (get_or content (run is_blank content) 0)
-
--- a byte of a word of a name: no separator
-unfoldable pub is_word_byte : ℕ → Bool
-is_word_byte b = not (is_separator b)
 
 -- a bracket is closed at `end`, its first `]` or the end of the content: there is a `]`, and then a blank or the end
 unfoldable pub closes_at : List ℕ → ℕ → Bool

@@ -13,7 +13,7 @@ pub terminator_at-terminator-requires : goal.terminator_at-terminator-requires
 terminator_at-terminator-requires c = search stop_fits
 
 pub overflow_add-next : goal.overflow_add-next
-overflow_add-next c = let s : c.skip_printed-stop.result ≤ length c.args.text.now = search stop_fits in let w : c.terminator_at-terminator.result ≤ 2 = search terminator_at_most in omega arith
+overflow_add-next c = let s : c.skip_far-stop.result ≤ length c.args.text.now = search stop_fits in let w : c.terminator_at-terminator.result ≤ 2 = search terminator_at_most in omega arith
 
 pub returns-then-stop-text : goal.returns-then-stop-text
 returns-then-stop-text c = search line_bad_byte

@@ -6,8 +6,8 @@ use Rattle.lex_line.proofs.past_content.Goals as goal
 pub returns-then-text-at : goal.returns-then-text-at
 returns-then-text-at c = search content_none
 
-pub returns-then-not-in_class : goal.returns-then-not-in_class
-returns-then-not-in_class c = search content_stops
+pub returns-then-not-contains : goal.returns-then-not-contains
+returns-then-not-contains c = search content_stops
 
 pub returns : goal.returns
 returns c = search content_through

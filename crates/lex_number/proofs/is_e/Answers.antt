@@ -1,4 +1,4 @@
--- `lex_number::is_e` meets its contract: each `return` by the tests that led there.
+-- `lex_number::is_e` meets its contract: each result by the tests that led there.
 -- Assumes nothing.
 use Rattle.base.proofs.IfLaws.{ifs, either_rest}
 use Rattle.lex_number.specs.Number.{is_e}
@@ -8,6 +8,6 @@ pub returns-then-b-eq101 : goal.returns-then-b-eq101
 unfolding is_e
 returns-then-b-eq101 c = search ifs
 
-pub returns : goal.returns
+pub returns-else-b-eq101 : goal.returns-else-b-eq101
 unfolding is_e
-returns c = search (ifs, either_rest)
+returns-else-b-eq101 c = search (ifs, either_rest)

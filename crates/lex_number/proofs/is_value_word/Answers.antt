@@ -1,4 +1,4 @@
--- `lex_number::is_value_word` meets its contract: zero's word, or the parts of the word are those of a number.
+-- `lex_number::is_value_word` meets its contract: each result by the tests that led there.
 -- Assumes nothing.
 use Rattle.base.proofs.IfLaws.{ifs}
 use Rattle.lex_number.specs.ValueWord.{is_value_word}
@@ -9,5 +9,5 @@ pub returns-then-word-eq128 : goal.returns-then-word-eq128
 unfolding is_value_word
 returns-then-word-eq128 c = search ifs
 
-pub returns : goal.returns
-returns c = search word_tested
+pub returns-else-word-eq128 : goal.returns-else-word-eq128
+returns-else-word-eq128 c = search word_tested

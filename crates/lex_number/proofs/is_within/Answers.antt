@@ -1,13 +1,13 @@
--- `lex_number::is_within` meets its contract: each `return` by the tests that led there.
+-- `lex_number::is_within` meets its contract: each result by the tests that led there.
 -- Assumes nothing.
-use Rattle.base.proofs.IfLaws.{ifs, both_rest}
 use Rattle.base.specs.Bytes.{within}
+use Rattle.base.proofs.IfLaws.{ifs, both_rest, both_not_left}
 use Rattle.lex_number.proofs.is_within.Goals as goal
 
-pub returns-then-value-low : goal.returns-then-value-low
+pub returns-then-low-value : goal.returns-then-low-value
 unfolding within
-returns-then-value-low c = search ifs
+returns-then-low-value c = search (ifs, both_rest)
 
-pub returns : goal.returns
+pub returns-else-low-value : goal.returns-else-low-value
 unfolding within
-returns c = search (ifs, both_rest)
+returns-else-low-value c = search (ifs, both_not_left)

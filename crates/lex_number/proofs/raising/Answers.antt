@@ -1,4 +1,4 @@
--- `lex_number::raising` meets its contract: each `return` by the sign.
+-- `lex_number::raising` meets its contract: each result by the tests that led there.
 -- Assumes nothing.
 use Rattle.base.proofs.IfLaws.{ifs}
 use Rattle.lex_number.specs.Way.Capped.{raising}
@@ -8,6 +8,6 @@ pub returns-then-x : goal.returns-then-x
 unfolding raising
 returns-then-x c = search ifs
 
-pub returns : goal.returns
+pub returns-else-x : goal.returns-else-x
 unfolding raising
-returns c = search ifs
+returns-else-x c = search ifs

@@ -1,8 +1,12 @@
 -- `lex_number::read_number` meets its contract: what is read, cut, has the value of the exact definition.
 -- Assumes nothing.
-use Rattle.lex_number.proofs.ReadLaws.{number_within, number_bounded, number_malformed, number_value}
+use Rattle.lex_number.proofs.ReadLaws.{sign_within, number_within, number_bounded, number_malformed, number_value}
+use Rattle.std.proofs.Common.{arith}
 use borrow.Author.Rules.{rules}
 use Rattle.lex_number.proofs.read_number.Goals as goal
+
+pub read_digits-d-requires : goal.read_digits-d-requires
+read_digits-d-requires c = rw c.past_sign.ensures (sign_within _ _ (omega arith))
 
 pub well_formed-requires : goal.well_formed-requires
 well_formed-requires c = search (rules, number_within)

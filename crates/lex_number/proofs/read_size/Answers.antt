@@ -1,7 +1,9 @@
+-- `lex_number::read_size` meets its contract: each goal by a law of the loop.
+-- Assumes nothing.
 use borrow.Author.Rules.{rules}
-use Rattle.base.proofs.RunLaws.{tested_on, tested_stop, reach_past}
+use Rattle.base.proofs.RunLaws.{tested_stop, tested_on, reach_past}
 use Rattle.lex_number.specs.Way.Capped.{capped_exponent, size_at}
-use Rattle.lex_number.proofs.SizeLaws.{size_on, exponents_same, told_from, told_to, size_past, size_stop, size_on_lem, next_cut}
+use Rattle.lex_number.proofs.SizeLaws.{size_on, exponents_same, size_stop, size_past, size_on_lem, next_cut, told_from, told_to}
 use Rattle.lex_number.proofs.read_size.Goals as goal
 
 pub loop-i-init : goal.loop-i-init

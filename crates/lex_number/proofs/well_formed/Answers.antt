@@ -1,10 +1,10 @@
--- `lex_number::well_formed` meets its contract: letters only, where their run goes to the end.
+-- `lex_number::well_formed` meets its contract: each result by the tests that led there.
 -- Assumes nothing.
 use Rattle.lex_number.proofs.ValueLaws.{formed_none, formed_letters}
 use Rattle.lex_number.proofs.well_formed.Goals as goal
 
-pub returns-then-not-d : goal.returns-then-not-d
-returns-then-not-d c = search formed_none
+pub returns-then-d : goal.returns-then-d
+returns-then-d c = search formed_letters
 
-pub returns : goal.returns
-returns c = search formed_letters
+pub returns-else-d : goal.returns-else-d
+returns-else-d c = search formed_none

@@ -1,17 +1,17 @@
--- `lex_number::with_byte` meets its contract: the point, or a digit, since the digits go on with this byte.
+-- `lex_number::with_byte` meets its contract: each result by the tests that led there.
 -- Assumes nothing.
-use Rattle.lex_number.proofs.DigitLaws.{value_from, value_to, byte_digit, byte_point}
 use borrow.Author.Rules.{rules}
+use Rattle.lex_number.proofs.DigitLaws.{byte_point, byte_digit, value_from, value_to}
 use Rattle.lex_number.proofs.with_byte.Goals as goal
-
-pub returns-then-b-eq46 : goal.returns-then-b-eq46
-returns-then-b-eq46 c = search byte_point
 
 pub overflow_sub-wide : goal.overflow_sub-wide
 overflow_sub-wide c = search value_from
 
-pub with_digit-requires : goal.with_digit-requires
-with_digit-requires c = search (rules, value_to)
+pub with_digit-requires-clause-fact_3 : goal.with_digit-requires-clause-fact_3
+with_digit-requires-clause-fact_3 c = search (rules, value_to)
 
-pub returns : goal.returns
-returns c = search byte_digit
+pub returns-then-b-eq46 : goal.returns-then-b-eq46
+returns-then-b-eq46 c = search byte_point
+
+pub returns-else-b-eq46 : goal.returns-else-b-eq46
+returns-else-b-eq46 c = search byte_digit

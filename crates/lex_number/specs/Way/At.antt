@@ -6,11 +6,10 @@ use Rattle.base.specs.Bytes.{is_digit, is_filled}
 use Rattle.base.specs.Runs.{run}
 use Rattle.base.specs.Way.Class.{run_end}
 use Rattle.lex_number.specs.Integer.{value_of}
-use Rattle.lex_number.specs.Number.{is_minus, no_digits, scan, no_exponent, exponent_of, raised, lowered, value_as, digits_of, exponent_from, number_of}
+use Rattle.lex_number.specs.Number.{is_minus, no_digits, scan, no_exponent, exponent_of, raised, lowered, value_as, digits_of, exponent_from, number_of, Number}
 use Rattle.lex_number.specs.declared.Digits.{Digits}
 use Rattle.lex_number.specs.declared.Exponent.{Exponent}
 use Rattle.lex_number.specs.declared.Scale.{Scale}
-use Rattle.lex_number.specs.declared.Number.{Number}
 use Rattle.lex_number.specs.declared.NumberAt.{NumberAt}
 use Rattle.lex_number.specs.declared.fast.Run.{Run}
 use Rattle.lex_number.specs.declared.fast.Plain.{Plain}

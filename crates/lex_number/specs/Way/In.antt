@@ -1,16 +1,13 @@
 -- A number inside a whole text, whose lines have not been found yet. Its word ends at a blank, a terminator or a comment.
 -- Assumes nothing.
-use Rattle.std.specs.Prelude.{ℕ, ◌≡◌, Bool, true, false, List, take, drop, eqb}
+use Rattle.std.specs.Prelude.{ℕ, ◌≡◌, Bool, List, take, drop, eqb, Option, IfSome, is_ok}
 use Prim.Native.Char.{code}
 use Rattle.base.specs.If.{both, either}
 use Rattle.base.specs.Bytes.{is_digit, is_letter, is_filled, is_content}
 use Rattle.base.specs.Runs.{run}
 use Rattle.base.specs.Way.Class.{run_end}
-use Rattle.lex_number.specs.Number.{is_sign, number_of}
-use Rattle.lex_number.specs.declared.Number.{Number}
-use Rattle.lex_number.specs.declared.Number.TheVariants.{Value, Malformed, Range}
+use Rattle.lex_number.specs.Number.{is_sign, number_of, Number}
 use Rattle.lex_number.specs.declared.NumberAt.{NumberAt}
-use Rattle.lex_number.specs.declared.fast.ShortNumber.{ShortNumber}
 
 -- a byte of a word: content that is not blank
 unfoldable pub is_word : ℕ → ℕ → Bool
@@ -22,15 +19,13 @@ is_spelling b = either (is_digit b) (either (is_letter b) (either (is_sign b) (e
 
 -- a number within its bounds: neither 13 nor 14
 abbrev pub is_good_number : Number → Bool
-is_good_number (Value word) = true
-is_good_number Malformed = false
-is_good_number Range = false
+is_good_number n = is_ok n
 
 -- the word that starts at `from`, as a number, and where it ends
 unfoldable pub number_in : ℕ → List ℕ → ℕ → NumberAt
 number_in comment s from =
     record { number = number_of (take (run (is_word comment) (drop from s)) (drop from s)); end = run_end (is_word comment) s from }
 
--- if the answer is known, it is the number at `from` and where its word ends
-pub record Knows (comment : ℕ) (s : List ℕ) (from : ℕ) (r : ShortNumber) : Type 0 where
-  pub knows : r.known ≡ true → record { number = r.number; end = r.end } ≡ number_in comment s from
+-- an answer of the short way is the number at `from` and where its word ends; it may have none
+abbrev pub Knows : ℕ → List ℕ → ℕ → Option NumberAt → Type 0
+Knows comment s from r = IfSome r (λ n. n ≡ number_in comment s from)

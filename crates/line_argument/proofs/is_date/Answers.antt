@@ -4,10 +4,10 @@ use Rattle.base.specs.Bytes.{within}
 use Rattle.base.proofs.IfLaws.{ifs, both_rest}
 use Rattle.line_argument.proofs.is_date.Goals as goal
 
-pub returns-then-s-lt1 : goal.returns-then-s-lt1
+pub returns-then-s-ge1 : goal.returns-then-s-ge1
 unfolding within
-returns-then-s-lt1 c = search (ifs, both_rest)
+returns-then-s-ge1 c = search (ifs, both_rest)
 
-pub returns : goal.returns
+pub returns-else-s-ge1 : goal.returns-else-s-ge1
 unfolding within
-returns c = search (ifs, both_rest)
+returns-else-s-ge1 c = search (ifs, both_rest)

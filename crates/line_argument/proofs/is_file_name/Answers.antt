@@ -14,7 +14,7 @@ pub returns-then-byte_at-ne46 : goal.returns-then-byte_at-ne46
 returns-then-byte_at-ne46 c = search no_period
 
 pub overflow_add-after : goal.overflow_add-after
-overflow_add-after c = let h : c.skip_file_bytes-period.result + 1 ≤ length c.args.s.now = search past_period in omega arith
+overflow_add-after c = let h : c.skip-period.result + 1 ≤ length c.args.s.now = search past_period in omega arith
 
 pub slice_bounds-is_extension-count : goal.slice_bounds-is_extension-count
 slice_bounds-is_extension-count c = search past_period

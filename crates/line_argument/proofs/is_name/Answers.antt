@@ -1,10 +1,15 @@
--- `line_argument::is_name` meets its contract: each `return` by what the calls before it answered.
+-- `line_argument::is_name` meets its contract.
 -- Assumes nothing.
-use Rattle.line_argument.proofs.ArgumentLaws.{no_word_no_name, word_name}
+use Rattle.line_argument.specs.Argument.{is_name}
+use Rattle.base.specs.If.{both}
+use Rattle.std.proofs.Common.{arith}
+use Rattle.std.proofs.lemmas.Bool.Decides.{nat_tests}
 use Rattle.line_argument.proofs.is_name.Goals as goal
 
-pub returns-then-not-is_one_word : goal.returns-then-not-is_one_word
-returns-then-not-is_one_word c = search (no_word_no_name, word_name)
+pub returns-then-is_one_word : goal.returns-then-is_one_word
+unfolding is_name both
+returns-then-is_one_word c = grind (arith, nat_tests)
 
-pub returns : goal.returns
-returns c = search (no_word_no_name, word_name)
+pub returns-else-is_one_word : goal.returns-else-is_one_word
+unfolding is_name both
+returns-else-is_one_word c = grind (arith, nat_tests)

@@ -1,10 +1,15 @@
--- `line_argument::is_one_word` meets its contract: no blank stands in it where the run of other bytes goes to the end.
+-- `line_argument::is_one_word` meets its contract: a run of such bytes over the whole.
 -- Assumes nothing.
-use Rattle.line_argument.proofs.ArgumentLaws.{empty_no_word, one_word}
+use Rattle.base.specs.If.{both}
+use Rattle.line_argument.specs.Argument.{is_one_word}
+use Rattle.line_argument.proofs.ArgumentLaws.{one_word}
+use Rattle.std.proofs.Common.{arith}
+use Rattle.std.proofs.lemmas.Bool.Decides.{nat_tests}
 use Rattle.line_argument.proofs.is_one_word.Goals as goal
 
-pub returns-then-s-lt1 : goal.returns-then-s-lt1
-returns-then-s-lt1 c = search (empty_no_word, one_word)
+pub returns-then-s-gt0 : goal.returns-then-s-gt0
+returns-then-s-gt0 c = search one_word
 
-pub returns : goal.returns
-returns c = search (empty_no_word, one_word)
+pub returns-else-s-gt0 : goal.returns-else-s-gt0
+unfolding is_one_word both
+returns-else-s-gt0 c = grind (arith, nat_tests)

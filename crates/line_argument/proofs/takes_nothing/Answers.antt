@@ -1,37 +1,24 @@
 -- `line_argument::takes_nothing` meets its contract: each `return` by the keywords it was compared with.
 -- Assumes nothing.
-use Rattle.base.proofs.IfLaws.{chain}
+use Rattle.base.specs.If.{either, both}
+use Rattle.base.specs.Bytes.{within}
+use Rattle.std.proofs.Common.{arith}
+use Rattle.std.proofs.lemmas.Bool.Decides.{nat_tests}
 use Rattle.line_argument.specs.Argument.{takes_nothing}
 use Rattle.line_argument.proofs.takes_nothing.Goals as goal
 
-pub returns-then-key-eq-BEGIN_HEADER : goal.returns-then-key-eq-BEGIN_HEADER
-unfolding takes_nothing
-returns-then-key-eq-BEGIN_HEADER c = search chain depth 12
+pub returns-in_default : goal.returns-in_default
+unfolding takes_nothing either both within
+returns-in_default c = grind (arith, nat_tests)
 
-pub returns-then-key-eq-END_HEADER : goal.returns-then-key-eq-END_HEADER
-unfolding takes_nothing
-returns-then-key-eq-END_HEADER c = search chain depth 12
+pub returns-in_default-2 : goal.returns-in_default-2
+unfolding takes_nothing either both within
+returns-in_default-2 c = grind (arith, nat_tests)
 
-pub returns-then-key-eq-ICM_MODEL_LIST : goal.returns-then-key-eq-ICM_MODEL_LIST
-unfolding takes_nothing
-returns-then-key-eq-ICM_MODEL_LIST c = search chain depth 12
+pub returns-in-15 : goal.returns-in-15
+unfolding takes_nothing either both within
+returns-in-15 c = grind (arith, nat_tests)
 
-pub returns-then-key-eq-TREE_PATH_DESCRIPTION : goal.returns-then-key-eq-TREE_PATH_DESCRIPTION
-unfolding takes_nothing
-returns-then-key-eq-TREE_PATH_DESCRIPTION c = search chain depth 12
-
-pub returns-then-key-eq-END_ICM_MODEL : goal.returns-then-key-eq-END_ICM_MODEL
-unfolding takes_nothing
-returns-then-key-eq-END_ICM_MODEL c = search chain depth 12
-
-pub returns-then-key-eq-END_ICM_FAMILY : goal.returns-then-key-eq-END_ICM_FAMILY
-unfolding takes_nothing
-returns-then-key-eq-END_ICM_FAMILY c = search chain depth 12
-
-pub returns-then-key-eq-END_ICM_SECTION : goal.returns-then-key-eq-END_ICM_SECTION
-unfolding takes_nothing
-returns-then-key-eq-END_ICM_SECTION c = search chain depth 12
-
-pub returns : goal.returns
-unfolding takes_nothing
-returns c = search chain depth 12
+pub returns-in-15-2 : goal.returns-in-15-2
+unfolding takes_nothing either both within
+returns-in-15-2 c = grind (arith, nat_tests)

@@ -1,21 +1,16 @@
 -- `line_argument::takes_text` meets its contract: each `return` by the keywords it was compared with.
 -- Assumes nothing.
-use Rattle.base.proofs.IfLaws.{chain}
+use Rattle.base.specs.If.{either, both}
+use Rattle.base.specs.Bytes.{within}
+use Rattle.std.proofs.Common.{arith}
+use Rattle.std.proofs.lemmas.Bool.Decides.{nat_tests}
 use Rattle.line_argument.specs.Argument.{takes_free_text}
 use Rattle.line_argument.proofs.takes_text.Goals as goal
 
-pub returns-then-key-eq-FILE_REV : goal.returns-then-key-eq-FILE_REV
-unfolding takes_free_text
-returns-then-key-eq-FILE_REV c = search chain depth 12
+pub returns-in-7 : goal.returns-in-7
+unfolding takes_free_text either both within
+returns-in-7 c = grind (arith, nat_tests)
 
-pub returns-then-key-eq-REDISTRIBUTION : goal.returns-then-key-eq-REDISTRIBUTION
-unfolding takes_free_text
-returns-then-key-eq-REDISTRIBUTION c = search chain depth 12
-
-pub returns-then-key-eq-BEGIN_ICM_FAMILY : goal.returns-then-key-eq-BEGIN_ICM_FAMILY
-unfolding takes_free_text
-returns-then-key-eq-BEGIN_ICM_FAMILY c = search chain depth 12
-
-pub returns : goal.returns
-unfolding takes_free_text
-returns c = search chain depth 12
+pub returns-in_default : goal.returns-in_default
+unfolding takes_free_text either both within
+returns-in_default c = grind (arith, nat_tests)

@@ -1,17 +1,20 @@
--- `line_head::head_lacks` meets its contract: each `return` by the tests that led there.
+-- `line_head::head_lacks` meets its contract.
 -- Assumes nothing.
-use Rattle.base.proofs.IfLaws.{chain}
+use Rattle.base.specs.If.{either, both, provided◌then◌else◌}
+use Rattle.base.specs.Bytes.{within}
+use Rattle.std.proofs.Common.{arith}
+use Rattle.std.proofs.lemmas.Bool.Decides.{nat_tests}
 use Rattle.line_head.specs.Head.{head_lacks}
 use Rattle.line_head.proofs.head_lacks.Goals as goal
 
 pub returns-then-h-eq0 : goal.returns-then-h-eq0
-unfolding head_lacks
-returns-then-h-eq0 c = search chain depth 12
+unfolding head_lacks either both within provided◌then◌else◌
+returns-then-h-eq0 c = grind (arith, nat_tests)
 
-pub returns-then-h-ne-SLM_GENERAL : goal.returns-then-h-ne-SLM_GENERAL
-unfolding head_lacks
-returns-then-h-ne-SLM_GENERAL c = search chain depth 12
+pub returns-then-h-eq-SLM_GENERAL : goal.returns-then-h-eq-SLM_GENERAL
+unfolding head_lacks either both within provided◌then◌else◌
+returns-then-h-eq-SLM_GENERAL c = grind (arith, nat_tests)
 
-pub returns : goal.returns
-unfolding head_lacks
-returns c = search chain depth 12
+pub returns-else-h-eq-SLM_GENERAL : goal.returns-else-h-eq-SLM_GENERAL
+unfolding head_lacks either both within provided◌then◌else◌
+returns-else-h-eq-SLM_GENERAL c = grind (arith, nat_tests)

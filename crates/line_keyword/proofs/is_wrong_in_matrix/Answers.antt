@@ -1,17 +1,17 @@
--- `line_keyword::is_wrong_in_matrix` meets its contract: each `return` by the tests that led there.
+-- `line_keyword::is_wrong_in_matrix` meets its contract: by the keyword.
 -- Assumes nothing.
-use Rattle.base.proofs.IfLaws.{chain, both_rest}
+use Rattle.std.proofs.Common.{◌≡◌}
+use borrow.Author.Rules.{rules}
+use Rattle.base.proofs.IfLaws.{chain}
 use Rattle.line_keyword.specs.Keywords.{is_wrong_in_matrix}
+use Rattle.line_keyword.proofs.BlockLaws.{wrong_given, row_judged}
 use Rattle.line_keyword.proofs.is_wrong_in_matrix.Goals as goal
 
-pub returns-then-not-given : goal.returns-then-not-given
-unfolding is_wrong_in_matrix
-returns-then-not-given c = search (chain, both_rest) depth 14 fits 4000
-
 pub returns-then-key-eq-ROW : goal.returns-then-key-eq-ROW
-unfolding is_wrong_in_matrix
-returns-then-key-eq-ROW c = search (chain, both_rest) depth 14 fits 4000
+returns-then-key-eq-ROW c =
+    let e : c.is_some_and.result ≡ wrong_given c.args.given c.args.m = search rules in
+    row_judged _ _ _ _ c.if-key-eq-ROW.true e
 
-pub returns : goal.returns
+pub returns-else-key-eq-ROW : goal.returns-else-key-eq-ROW
 unfolding is_wrong_in_matrix
-returns c = search chain depth 14 fits 4000
+returns-else-key-eq-ROW c = search chain

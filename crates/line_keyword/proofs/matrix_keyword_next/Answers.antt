@@ -9,5 +9,5 @@ returns-then-key-eq-ROW c = search kept_row
 pub with_bandwidth-requires : goal.with_bandwidth-requires
 with_bandwidth-requires c = search kept_small
 
-pub returns : goal.returns
-returns c = search kept_bandwidth
+pub returns-else-key-eq-ROW : goal.returns-else-key-eq-ROW
+returns-else-key-eq-ROW c = search kept_bandwidth

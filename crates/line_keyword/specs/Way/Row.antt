@@ -1,7 +1,7 @@
 -- [Row] and [Bandwidth] judged by the matrix alone: the rules they break in it, and the matrix after them. They change
 -- nothing else of the state.
 -- Assumes nothing.
-use Rattle.std.specs.Prelude.{ℕ, List, [], ◌∷◌, eqb}
+use Rattle.std.specs.Prelude.{ℕ, List, [], ◌∷◌, eqb, unwrap_or}
 use Rattle.base.specs.If.{provided◌then◌else◌}
 use Rattle.base.specs.Broken.{Rule, ◌when◌, first_broken}
 use Rattle.base.specs.Refusal as refusal
@@ -27,4 +27,4 @@ matrix_keyword_rule k argument m = first_broken (matrix_keyword_rules k argument
 -- the matrix after a [Row] or [Bandwidth]
 unfoldable pub matrix_keyword_next : ℕ → List ℕ → Matrix → ℕ → Matrix
 matrix_keyword_next k argument m values =
-    provided eqb k row then with_row (whole_of argument).value m values else with_bandwidth (whole_of argument).value m
+    provided eqb k row then with_row (unwrap_or (whole_of argument) 0) m values else with_bandwidth (unwrap_or (whole_of argument) 0) m

@@ -1,25 +1,28 @@
 -- `line_map::is_out_of_order` meets its contract: each `return` by what the line says.
 -- Assumes nothing.
-use Rattle.base.proofs.IfLaws.{chain}
 use Rattle.line_map.specs.PinMap.{is_map_out_of_order}
+use Rattle.base.specs.If.{either, both, provided◌then◌else◌}
+use Rattle.base.specs.Bytes.{within}
+use Rattle.std.proofs.Common.{arith}
+use Rattle.std.proofs.lemmas.Bool.Decides.{nat_tests}
 use Rattle.line_map.proofs.is_out_of_order.Goals as goal
 
-pub returns-then-l-eq-ORDER : goal.returns-then-l-eq-ORDER
-unfolding is_map_out_of_order
-returns-then-l-eq-ORDER c = search chain depth 12
+pub returns-in-1 : goal.returns-in-1
+unfolding is_map_out_of_order either both within provided◌then◌else◌
+returns-in-1 c = grind (arith, nat_tests)
 
-pub returns-then-l-eq-COLUMNS : goal.returns-then-l-eq-COLUMNS
-unfolding is_map_out_of_order
-returns-then-l-eq-COLUMNS c = search chain depth 12
+pub returns-in-2 : goal.returns-in-2
+unfolding is_map_out_of_order either both within provided◌then◌else◌
+returns-in-2 c = grind (arith, nat_tests)
 
-pub returns-then-l-eq-ROWS : goal.returns-then-l-eq-ROWS
-unfolding is_map_out_of_order
-returns-then-l-eq-ROWS c = search chain depth 12
+pub returns-in-3 : goal.returns-in-3
+unfolding is_map_out_of_order either both within provided◌then◌else◌
+returns-in-3 c = grind (arith, nat_tests)
 
-pub returns-then-l-eq-PIN_LIST : goal.returns-then-l-eq-PIN_LIST
-unfolding is_map_out_of_order
-returns-then-l-eq-PIN_LIST c = search chain depth 12
+pub returns-in-4 : goal.returns-in-4
+unfolding is_map_out_of_order either both within provided◌then◌else◌
+returns-in-4 c = grind (arith, nat_tests)
 
-pub returns : goal.returns
-unfolding is_map_out_of_order
-returns c = search chain depth 12
+pub returns-in_default : goal.returns-in_default
+unfolding is_map_out_of_order either both within provided◌then◌else◌
+returns-in_default c = grind (arith, nat_tests)

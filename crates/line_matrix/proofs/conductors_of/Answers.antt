@@ -1,17 +1,20 @@
 -- `line_matrix::conductors_of` meets its contract: by the form.
 -- Assumes nothing.
-use Rattle.base.proofs.IfLaws.{chain}
 use Rattle.line_matrix.specs.Matrix.{shape_conductors}
+use Rattle.base.specs.If.{either, both, provided◌then◌else◌}
+use Rattle.base.specs.Bytes.{within}
+use Rattle.std.proofs.Common.{arith}
+use Rattle.std.proofs.lemmas.Bool.Decides.{nat_tests}
 use Rattle.line_matrix.proofs.conductors_of.Goals as goal
 
-pub returns-then-m-eq-DIAGONAL : goal.returns-then-m-eq-DIAGONAL
-unfolding shape_conductors
-returns-then-m-eq-DIAGONAL c = search chain depth 12
+pub returns-in-0 : goal.returns-in-0
+unfolding shape_conductors either both within provided◌then◌else◌
+returns-in-0 c = grind (arith, nat_tests)
 
-pub returns-then-m-eq-SPARSE : goal.returns-then-m-eq-SPARSE
-unfolding shape_conductors
-returns-then-m-eq-SPARSE c = search chain depth 12
+pub returns-in-2 : goal.returns-in-2
+unfolding shape_conductors either both within provided◌then◌else◌
+returns-in-2 c = grind (arith, nat_tests)
 
-pub returns : goal.returns
-unfolding shape_conductors
-returns c = search chain depth 12
+pub returns-in_default : goal.returns-in_default
+unfolding shape_conductors either both within provided◌then◌else◌
+returns-in_default c = grind (arith, nat_tests)

@@ -1,24 +1,24 @@
 -- `line_matrix::is_wrong_row` meets its contract: each `return` by the tests that led there.
 -- Assumes nothing.
-use Rattle.base.proofs.IfLaws.{ifs, either_rest}
 use Rattle.line_matrix.specs.Matrix.{is_wrong_row}
-use Rattle.line_matrix.proofs.MatrixLaws.{row_zero, row_next}
+use Rattle.base.specs.If.{either, both, provided◌then◌else◌}
+use Rattle.base.specs.Bytes.{within}
+use Rattle.std.proofs.Common.{arith}
+use Rattle.std.proofs.lemmas.Bool.Decides.{nat_tests}
 use Rattle.line_matrix.proofs.is_wrong_row.Goals as goal
 
-pub returns-then-m-eq-DIAGONAL : goal.returns-then-m-eq-DIAGONAL
-unfolding is_wrong_row
-returns-then-m-eq-DIAGONAL c = search (ifs, either_rest)
+pub returns-in-0 : goal.returns-in-0
+unfolding is_wrong_row either both within provided◌then◌else◌
+returns-in-0 c = grind (arith, nat_tests)
 
-pub returns-then-m-eq-SPARSE : goal.returns-then-m-eq-SPARSE
-unfolding is_wrong_row
-returns-then-m-eq-SPARSE c = search (ifs, either_rest)
-
-pub returns-then-m-eq0 : goal.returns-then-m-eq0
-unfolding is_wrong_row
-returns-then-m-eq0 c = search (ifs, either_rest)
+pub returns-in-2 : goal.returns-in-2
+unfolding is_wrong_row either both within provided◌then◌else◌
+returns-in-2 c = grind (arith, nat_tests)
 
 pub returns-then-row-eq0 : goal.returns-then-row-eq0
-returns-then-row-eq0 c = search row_zero
+unfolding is_wrong_row either both within provided◌then◌else◌
+returns-then-row-eq0 c = grind (arith, nat_tests)
 
-pub returns : goal.returns
-returns c = search row_next
+pub returns-else-row-eq0 : goal.returns-else-row-eq0
+unfolding is_wrong_row either both within provided◌then◌else◌
+returns-else-row-eq0 c = grind (arith, nat_tests)

@@ -1,18 +1,20 @@
 -- `line_matrix::still_fits` meets its contract: each `return` by the tests that led there.
 -- Assumes nothing.
-use borrow.Author.Tests.{not-true, not-false}
-use Rattle.base.proofs.IfLaws.{chain}
 use Rattle.line_matrix.specs.Matrix.{still_fits}
+use Rattle.base.specs.If.{either, both, provided◌then◌else◌}
+use Rattle.base.specs.Bytes.{within}
+use Rattle.std.proofs.Common.{arith}
+use Rattle.std.proofs.lemmas.Bool.Decides.{nat_tests}
 use Rattle.line_matrix.proofs.still_fits.Goals as goal
 
-pub returns-then-not-rows : goal.returns-then-not-rows
-unfolding still_fits
-returns-then-not-rows c = search (chain, not-true, not-false)
-
 pub returns-then-m-eq-SPARSE : goal.returns-then-m-eq-SPARSE
-unfolding still_fits
-returns-then-m-eq-SPARSE c = search (chain, not-true, not-false)
+unfolding still_fits either both within provided◌then◌else◌
+returns-then-m-eq-SPARSE c = grind (arith, nat_tests)
 
-pub returns : goal.returns
-unfolding still_fits
-returns c = search (chain, not-true, not-false)
+pub returns-else-m-eq-SPARSE : goal.returns-else-m-eq-SPARSE
+unfolding still_fits either both within provided◌then◌else◌
+returns-else-m-eq-SPARSE c = grind (arith, nat_tests)
+
+pub returns-else-m : goal.returns-else-m
+unfolding still_fits either both within provided◌then◌else◌
+returns-else-m c = grind (arith, nat_tests)

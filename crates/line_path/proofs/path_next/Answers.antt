@@ -1,25 +1,27 @@
--- `line_path::path_next` meets its contract: each `return` by what the line says.
+-- `line_path::path_next` meets its contract: each arm by what the line says.
 -- Assumes nothing.
-use Rattle.base.proofs.IfLaws.{chain}
+use Rattle.base.specs.If.{either, both, provided◌then◌else◌}
+use Rattle.std.proofs.Common.{arith}
+use Rattle.std.proofs.lemmas.Bool.Decides.{nat_tests}
 use Rattle.line_path.specs.Path.{path_next}
-use Rattle.line_path.proofs.RuleLaws.{next_endfork}
 use Rattle.line_path.proofs.path_next.Goals as goal
 
-pub returns-then-l-eq-END : goal.returns-then-l-eq-END
-unfolding path_next
-returns-then-l-eq-END c = search chain depth 12
+pub returns-in-1 : goal.returns-in-1
+unfolding path_next either both provided◌then◌else◌
+returns-in-1 c = grind (arith, nat_tests)
 
-pub returns-then-l-eq-SECTION : goal.returns-then-l-eq-SECTION
-unfolding path_next
-returns-then-l-eq-SECTION c = search chain depth 12
+pub returns-in-3 : goal.returns-in-3
+unfolding path_next either both provided◌then◌else◌
+returns-in-3 c = grind (arith, nat_tests)
 
-pub returns-then-l-eq-FORK : goal.returns-then-l-eq-FORK
-unfolding path_next
-returns-then-l-eq-FORK c = search chain depth 12
+pub returns-in-4 : goal.returns-in-4
+unfolding path_next either both provided◌then◌else◌
+returns-in-4 c = grind (arith, nat_tests)
 
-pub returns-then-l-eq-ENDFORK : goal.returns-then-l-eq-ENDFORK
-returns-then-l-eq-ENDFORK c = search next_endfork
+pub returns-in-5 : goal.returns-in-5
+unfolding path_next either both provided◌then◌else◌
+returns-in-5 c = grind (arith, nat_tests)
 
-pub returns : goal.returns
-unfolding path_next
-returns c = search chain depth 12
+pub returns-in_default : goal.returns-in_default
+unfolding path_next either both provided◌then◌else◌
+returns-in_default c = grind (arith, nat_tests)

@@ -1,7 +1,7 @@
 -- A Section line as the code reads it, with its parts: first the words before and after its `=`, then its unit and its
 -- amount. `SectionLaws` shows that this is the line that `Path` defines.
 -- Assumes nothing.
-use Rattle.std.specs.Prelude.{ℕ, ◌+◌, Bool, true, false, not, List, length, drop, eqb}
+use Rattle.std.specs.Prelude.{ℕ, ◌+◌, Bool, true, false, not, List, length, drop, eqb, unwrap_or}
 use Rattle.base.specs.If.{provided◌then◌else◌, both}
 use Rattle.base.specs.Bytes.{bytes}
 use Rattle.base.specs.Runs.{same}
@@ -30,7 +30,7 @@ abbrev pub wrong_section : PathParts
 wrong_section = plain_parts says_section false
 
 unfoldable pub amount_in : Bool → List ℕ → ℕ
-amount_in mult amount = provided mult then (whole_of amount).value else word_in (number_of amount)
+amount_in mult amount = provided mult then unwrap_or (whole_of amount) 0 else word_in (number_of amount)
 
 -- a line whose rest is right, by its amount, a Mult or a Len
 unfoldable pub amount_line : Bool → List ℕ → Span → PathParts

@@ -9,5 +9,5 @@ scaled-size-requires c = search (exact_size, not_too_low, not_too_high)
 pub returns-then-parts : goal.returns-then-parts
 returns-then-parts c = search negated
 
-pub returns : goal.returns
-returns c = search kept
+pub returns-else-parts : goal.returns-else-parts
+returns-else-parts c = search kept

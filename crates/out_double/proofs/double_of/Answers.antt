@@ -9,5 +9,5 @@ double-requires c = cc
 pub returns-then-is_drawn : goal.returns-then-is_drawn
 returns-then-is_drawn c = search drawn
 
-pub returns : goal.returns
-returns c = search outside
+pub returns-else-is_drawn : goal.returns-else-is_drawn
+returns-else-is_drawn c = search outside

@@ -10,5 +10,5 @@ int_to_float-exact c = holds _ (omega arith)
 pub returns-then-shifted-lt64 : goal.returns-then-shifted-lt64
 returns-then-shifted-lt64 c = search divided
 
-pub returns : goal.returns
-returns c = search multiplied
+pub returns-else-shifted-lt64 : goal.returns-else-shifted-lt64
+returns-else-shifted-lt64 c = search multiplied

@@ -6,5 +6,5 @@ use Rattle.out_listing.proofs.end_line.Goals as goal
 pub returns-then-step-eq0 : goal.returns-then-step-eq0
 returns-then-step-eq0 c = search end_written
 
-pub returns : goal.returns
-returns c = search end_with_side
+pub returns-else-step-eq0 : goal.returns-else-step-eq0
+returns-else-step-eq0 c = search end_with_side

@@ -20,6 +20,6 @@ pub returns-then-has_matrix-4 : goal.returns-then-has_matrix-4
 unfolding kind_in
 returns-then-has_matrix-4 c = search chain depth 12
 
-pub returns : goal.returns
+pub returns-else-has_matrix-4 : goal.returns-else-has_matrix-4
 unfolding kind_in
-returns c = search chain depth 12
+returns-else-has_matrix-4 c = search chain depth 12

@@ -3,8 +3,5 @@
 use Rattle.out_listing.proofs.LoopLaws.{ValuesLeft}
 use Rattle.out_listing.proofs.matrix_lines.Given as goal
 
-abbrev pub invariant-loop-left : goal.invariant-loop-left
-invariant-loop-left l = ValuesLeft l.text l.table l.initial.out l.at l.index l.out l.next l.section l.kind l.value l.left
-
-abbrev pub decreases-loop-left : goal.decreases-loop-left
-decreases-loop-left l = l.left
+abbrev pub invariant-loop-i : goal.invariant-loop-i
+invariant-loop-i l = ValuesLeft l.text l.table l.initial.out l.at l.index l.out l.next l.section l.kind l.end l.i

@@ -1,6 +1,5 @@
-use borrow.Author.Rules.{rules}
 use Rattle.out_listing.proofs.OwnerLaws.{owner_starts, owner_found, owner_on, owner_none}
-use Rattle.out_listing.proofs.ShownLaws.{sections_shown, section_fits}
+use Rattle.out_listing.proofs.ShownLaws.{sections_shown}
 use Rattle.out_listing.proofs.owner_of.Goals as goal
 
 pub loop-i-init : goal.loop-i-init
@@ -8,9 +7,6 @@ loop-i-init c = search (owner_starts, sections_shown)
 
 pub returns-then-kind-lt-MATRIX_KINDS : goal.returns-then-kind-lt-MATRIX_KINDS
 returns-then-kind-lt-MATRIX_KINDS c = search owner_found
-
-pub overflow_add-i : goal.overflow_add-i
-overflow_add-i c = search (rules, section_fits)
 
 pub loop-i-preserved : goal.loop-i-preserved
 loop-i-preserved c = search owner_on

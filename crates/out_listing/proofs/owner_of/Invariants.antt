@@ -7,6 +7,3 @@ use Rattle.out_listing.proofs.owner_of.Given as goal
 
 abbrev pub invariant-loop-i : goal.invariant-loop-i
 invariant-loop-i l = owner_from (shown l.table) l.matrix (l.count - l.i) l.i ≡ owner_of (shown l.table) l.matrix
-
-abbrev pub decreases-loop-i : goal.decreases-loop-i
-decreases-loop-i l = l.count - l.i

@@ -9,6 +9,6 @@ pub returns-then-method-eq-LUMPED : goal.returns-then-method-eq-LUMPED
 unfolding amount_text
 returns-then-method-eq-LUMPED c = search (text_yes, text_no, tests) depth 12
 
-pub returns : goal.returns
+pub returns-else-method-eq-LUMPED : goal.returns-else-method-eq-LUMPED
 unfolding amount_text
-returns c = search (text_yes, text_no, tests) depth 12
+returns-else-method-eq-LUMPED c = search (text_yes, text_no, tests) depth 12

@@ -1,22 +1,29 @@
--- `out_listing::step_line` meets its contract: each `return` by the kinds told apart so far.
+-- `out_listing::step_line` meets its contract: each arm by the kinds told apart so far.
 -- Assumes nothing.
+use mathlib.Core.Path.{◌≡◌}
+use native.Mathlib.Omega.{arith}
 use Rattle.base.proofs.IfLaws.{tests}
 use Rattle.out_listing.specs.Listing.{listed_step}
 use Rattle.out_listing.proofs.TextLaws.{line_yes, line_no}
 use Rattle.out_listing.proofs.step_line.Goals as goal
 
-pub returns-then-step-eq-END : goal.returns-then-step-eq-END
+pub returns-in-0 : goal.returns-in-0
 unfolding listed_step
-returns-then-step-eq-END c = search (line_yes, line_no, tests) depth 12
+returns-in-0 c = search (line_yes, line_no, tests) depth 12
 
-pub returns-then-step-eq-SECTION : goal.returns-then-step-eq-SECTION
+pub returns-in-1 : goal.returns-in-1
 unfolding listed_step
-returns-then-step-eq-SECTION c = search (line_yes, line_no, tests) depth 12
+returns-in-1 c =
+    let not_0 : c.args.step.kind ≡ 0 → ⊥ = omega arith in
+    search (line_yes, line_no, tests) depth 12
 
-pub returns-then-step-eq-FORK : goal.returns-then-step-eq-FORK
+pub returns-in-2 : goal.returns-in-2
 unfolding listed_step
-returns-then-step-eq-FORK c = search (line_yes, line_no, tests) depth 12
+returns-in-2 c =
+    let not_0 : c.args.step.kind ≡ 0 → ⊥ = omega arith in
+    let not_1 : c.args.step.kind ≡ 1 → ⊥ = omega arith in
+    search (line_yes, line_no, tests) depth 12
 
-pub returns : goal.returns
+pub returns-in_default : goal.returns-in_default
 unfolding listed_step
-returns c = search (line_yes, line_no, tests) depth 12
+returns-in_default c = search (line_yes, line_no, tests) depth 12

@@ -6,5 +6,5 @@ use Rattle.out_text.proofs.put_exponent.Goals as goal
 pub returns-then-shifted-lt64 : goal.returns-then-shifted-lt64
 returns-then-shifted-lt64 c = search exponent_below
 
-pub returns : goal.returns
-returns c = search exponent_above
+pub returns-else-shifted-lt64 : goal.returns-else-shifted-lt64
+returns-else-shifted-lt64 c = search exponent_above

@@ -6,5 +6,5 @@ use Rattle.out_text.proofs.put_sign.Goals as goal
 pub returns-then-negative : goal.returns-then-negative
 returns-then-negative c = search sign_written
 
-pub returns : goal.returns
-returns c = search sign_none
+pub returns-else-negative : goal.returns-else-negative
+returns-else-negative c = search sign_none

@@ -1,7 +1,8 @@
 -- What is promised of the lines of a matrix, which are judged and staged in one pass: how each line changes its part of
 -- the state, as elsewhere in the reading, and what it adds to the staging.
 -- Assumes nothing.
-use Rattle.std.specs.Prelude.{ℕ, ◌≤◌, ◌<◌, max, ◌≡◌, true, false, List, ◌++◌, length, eqb}
+use Rattle.std.specs.Prelude.{ℕ, ◌≤◌, ◌<◌, max, ◌≡◌, true, false, List, ◌++◌, length, eqb, unwrap_or, None, Some}
+use Rattle.std.specs.Option.{option_or}
 use Rattle.base.specs.If.{provided◌then◌else◌}
 use Rattle.lex_line.specs.Lines.{is_blank_line}
 use Rattle.lex_line.specs.Way.LineEnds.{content_at}
@@ -21,7 +22,6 @@ use Rattle.read_line.specs.Way.Steps.{keyword_step}
 use Rattle.read_line.specs.Way.Walk.{ResumesPart, HoldsPart, Decides, Opens, with_matrix}
 use Rattle.doc.specs.Lines.{Line, lines_at, up_to}
 use Rattle.doc.specs.Document.{in_matrix, values_from, bandwidth_in, greatest_in}
-use Rattle.read_numbers.specs.Way.Told.{untold, first_told, told_or}
 use Rattle.read_numbers.specs.Way.Staging.{HeldValues, BoundedStaging, Adds}
 use Rattle.read_numbers.specs.declared.Staging.{Staging}
 use Rattle.read_matrix.specs.declared.Data.{Data}
@@ -33,14 +33,14 @@ body_lines t n at = up_to in_matrix (lines_at t n at place.matrix)
 
 -- before the first of them
 abbrev pub new_staging : Staging
-new_staging = record { row = 1; column = 1; bandwidth = untold; greatest = 0 }
+new_staging = record { row = 1; column = 1; bandwidth = None; greatest = 0 }
 
 -- [Row] i: the next number belongs at (i, i); of several [Bandwidth] the first counts
 unfoldable pub keyword_staging : ℕ → ℕ → Staging → Staging
 keyword_staging key value a =
     provided eqb key row
     then record { row = value; column = value; bandwidth = a.bandwidth; greatest = max a.greatest value }
-    else record { row = a.row; column = a.column; bandwidth = first_told a.bandwidth value; greatest = a.greatest }
+    else record { row = a.row; column = a.column; bandwidth = option_or a.bandwidth (Some value); greatest = a.greatest }
 
 -- ---- one line
 
@@ -50,7 +50,7 @@ pub record TakesKeyword (key : ℕ) (argument : List ℕ) (m : Matrix) (values :
   pub decides : Decides place.matrix (with_matrix m values) (keyword_step key argument) r.rule (with_matrix r.matrix r.values)
   pub form : r.matrix.form ≡ m.form
   pub same : r.values ≡ values
-  pub staging : r.rule ≡ 0 → r.staging ≡ keyword_staging key (whole_of argument).value a
+  pub staging : r.rule ≡ 0 → r.staging ≡ keyword_staging key (unwrap_or (whole_of argument) 0) a
   pub bounded : BoundedStaging r.staging values
 
 -- a line of data: it has words, and no bracket at its front
@@ -93,7 +93,7 @@ pub record TakesAlone (content : List ℕ) (m : Matrix) (values : ℕ) (a : Stag
 pub record Left (t : List ℕ) (n₀ at₀ form : ℕ) (table₀ : List ℕ) (values₀ n at : ℕ) (table : List ℕ) (values : ℕ) (a : Staging) : Type 0 where
   pub held : (whole rest : List Value) → HeldValues whole table₀ values₀ (values_from form 1 1 (body_lines t n₀ at₀) ++ rest) →
       HeldValues whole table values (values_from form a.row a.column (body_lines t n at) ++ rest)
-  pub bandwidth : told_or a.bandwidth (bandwidth_in (body_lines t n at)) ≡ bandwidth_in (body_lines t n₀ at₀)
+  pub bandwidth : unwrap_or a.bandwidth (bandwidth_in (body_lines t n at)) ≡ bandwidth_in (body_lines t n₀ at₀)
   pub greatest : max a.greatest (greatest_in form (body_lines t n at)) ≡ greatest_in form (body_lines t n₀ at₀)
   -- what follows the lines that are left follows all of them
   pub rest : (ls : List Line) → lines_at t n at place.matrix ≡ body_lines t n at ++ ls → lines_at t n₀ at₀ place.matrix ≡ body_lines t n₀ at₀ ++ ls

@@ -10,14 +10,14 @@ returns-then-not-is_word_at c = search pair_blank
 pub slice_bounds-read_integer-end : goal.slice_bounds-read_integer-end
 slice_bounds-read_integer-end c = search (rules, word_starts, word_inside)
 
-pub returns-then-not-column : goal.returns-then-not-column
-returns-then-not-column c = search column_unformed
+pub returns-in_default : goal.returns-in_default
+returns-in_default c = search (rules, column_unformed, c.in_default.ensures)
 
 pub returns-then-not-is_within : goal.returns-then-not-is_within
-returns-then-not-is_within c = search column_unbounded
+returns-then-not-is_within c = search (rules, column_unbounded, c.in-Some.ensures)
 
-pub store_numbers-numbers-requires : goal.store_numbers-numbers-requires
-store_numbers-numbers-requires c = search (rules, column_few)
+pub store_numbers-numbers-requires-clause-fact_2 : goal.store_numbers-numbers-requires-clause-fact_2
+store_numbers-numbers-requires-clause-fact_2 c = search (rules, column_few, c.in-Some.ensures)
 
 pub returns : goal.returns
-returns c = search pair_stages
+returns c = search (rules, pair_stages, c.in-Some.ensures)

@@ -10,8 +10,8 @@ returns-then-not-is_word_at c = search left_done
 pub number_in-read-requires : goal.number_in-read-requires
 number_in-read-requires c = pipe_spells_nothing
 
-pub returns-then-not-is_value : goal.returns-then-not-is_value
-returns-then-not-is_value c = search left_broken
+pub returns-then-is_err : goal.returns-then-is_err
+returns-then-is_err c = search left_broken
 
 pub put_number-cursor-requires-clause-fact_1 : goal.put_number-cursor-requires-clause-fact_1
 put_number-cursor-requires-clause-fact_1 c = search left_movable
@@ -34,8 +34,8 @@ returns-then-not-is_word_at-2 c = search passes_done
 pub plain_number-read-requires : goal.plain_number-read-requires
 plain_number-read-requires c = search (word_there, c.is_word_at-in-loop-cursor.ensures, c.if-not-is_word_at-2.false-raw)
 
-pub returns-then-not-is_value-2 : goal.returns-then-not-is_value-2
-returns-then-not-is_value-2 c = search passes_broken
+pub returns-then-is_err-2 : goal.returns-then-is_err-2
+returns-then-is_err-2 c = search passes_broken
 
 pub pass_number-cursor-requires : goal.pass_number-cursor-requires
 pass_number-cursor-requires c = search passes_movable

@@ -2,8 +2,7 @@
 -- Assumes nothing.
 use Rattle.std.specs.Prelude.{ℕ, ◌+◌, ◌*◌, ◌≤◌, ◌<◌, ◌≡◌, List, length, eqb}
 use Rattle.base.specs.If.{provided◌then◌else◌}
-use Rattle.lex_number.specs.Number.{word_in}
-use Rattle.lex_number.specs.declared.Number.{Number}
+use Rattle.lex_number.specs.Number.{word_in, Number}
 use Rattle.table_layout.specs.Codes.{diagonal}
 use Rattle.table_layout.specs.Layout.{value_width}
 use Rattle.table_record.specs.Records.{value_words}

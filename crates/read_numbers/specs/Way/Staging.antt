@@ -1,7 +1,7 @@
 -- What one line adds to the staging of a matrix, in the words of the document: whatever lines come after it, staging
 -- them next gives what the line and they give together.
 -- Assumes nothing.
-use Rattle.std.specs.Prelude.{ℕ, ◌+◌, ◌≤◌, max, ◌≡◌, true, false, List, ◌∷◌, ◌++◌, length}
+use Rattle.std.specs.Prelude.{ℕ, ◌+◌, ◌≤◌, max, ◌≡◌, true, false, List, ◌∷◌, ◌++◌, length, unwrap_or}
 use Rattle.base.specs.If.{both}
 use Rattle.table_layout.specs.Layout.{value_width}
 use Rattle.table_layout.specs.Codes.{sparse}
@@ -14,7 +14,6 @@ use Rattle.line_matrix.specs.Matrix.{data_line_of}
 use Rattle.line_matrix.specs.declared.DataLine.{DataLine}
 use Rattle.doc.specs.Lines.{Line, plain, key_of}
 use Rattle.doc.specs.Document.{values_from, bandwidth_in, greatest_in}
-use Rattle.read_numbers.specs.Way.Told.{told_or}
 use Rattle.read_numbers.specs.Way.Numbers.{most_given}
 use Rattle.read_numbers.specs.declared.Staging.{Staging}
 use Rattle.read_numbers.specs.declared.Numbers.{Numbers}
@@ -34,7 +33,7 @@ pub record Adds (form : ℕ) (l : Line) (table : List ℕ) (values : ℕ) (a : S
   pub held : (ls : List Line) (whole rest : List Value) →
       HeldValues whole table values (values_from form a.row a.column (l ∷ ls) ++ rest) →
       HeldValues whole table' values' (values_from form b.row b.column ls ++ rest)
-  pub bandwidth : (ls : List Line) → told_or b.bandwidth (bandwidth_in ls) ≡ told_or a.bandwidth (bandwidth_in (l ∷ ls))
+  pub bandwidth : (ls : List Line) → unwrap_or b.bandwidth (bandwidth_in ls) ≡ unwrap_or a.bandwidth (bandwidth_in (l ∷ ls))
   pub greatest : (ls : List Line) → max b.greatest (greatest_in form ls) ≡ max a.greatest (greatest_in form (l ∷ ls))
   pub bounded : BoundedStaging b values'
 

@@ -1,7 +1,8 @@
 -- What is left of sections and matrices while lines are read: told by the section that is open, how far the walk has
 -- come, and the lines that are left. What is staged, and that, is the whole.
 -- Assumes nothing.
-use Rattle.std.specs.Prelude.{ℕ, ◌+◌, ◌-◌, ◌*◌, ◌≤◌, ◌≡◌, Bool, true, not, List, [], ◌∷◌, ◌++◌, length, get_or, set, replicate, eqb}
+use Rattle.std.specs.Prelude.{ℕ, ◌+◌, ◌-◌, ◌*◌, ◌≤◌, ◌≡◌, Bool, true, not, List, [], ◌∷◌, ◌++◌, length, get_or, set, replicate, eqb, None, Some, unwrap_or}
+use Rattle.std.specs.Option.{option_or}
 use Rattle.base.specs.If.{provided◌then◌else◌, both, either}
 use Rattle.lex_keyword.specs.Bracket.{bracket_of}
 use Rattle.line_place.specs.Place as place
@@ -16,7 +17,6 @@ use Rattle.read_line.specs.Reading.{argument_from}
 use Rattle.doc.specs.Lines.{Line, key_at, argument_in, gather, up_to}
 use Rattle.doc.specs.Document.{Matrix, Section, kind_of, in_matrix, values_from, bandwidth_in, conductors_in, matrix_at, in_section, method_in, section_at, conductors_of}
 use Rattle.doc.specs.Records.{index_of_kind, section_records, matrix_records, matrices_of, values_of}
-use Rattle.read_numbers.specs.Way.Told.{untold, first_told, told_or}
 use Rattle.read_numbers.specs.Way.Staging.{HeldValues}
 use Rattle.read_sections.specs.declared.OpenSection.{OpenSection}
 
@@ -108,7 +108,7 @@ record_with o method conductors kinds =
 
 unfoldable pub open_record : OpenSection → Reached → List Line → SectionRecord
 open_record o w ls =
-    record_with o (method_left w ls) (told_or o.conductors (conductors_of (own_matrices o w ls)))
+    record_with o (method_left w ls) (unwrap_or o.conductors (conductors_of (own_matrices o w ls)))
     (λ (k : ℕ). kept_or (get_or o.kinds k 0) (index_of_kind k (closed_matrices w) (own_matrices o w ls)))
 
 unfoldable pub open_records : OpenSection → Reached → List Line → List SectionRecord
@@ -129,7 +129,7 @@ pub record Stands (ss : List Section) (o : OpenSection) (w : Reached) (ls : List
 -- ---- what the code does at a line that leads from one place to another
 
 abbrev pub no_section : OpenSection
-no_section = record { start = 0; size = 0; conductors = untold; kinds = replicate matrix_kinds 0; kind = 0 }
+no_section = record { start = 0; size = 0; conductors = None; kinds = replicate matrix_kinds 0; kind = 0 }
 
 -- a section opens: its name is the argument of the keyword
 abbrev pub beginning : ℕ → List ℕ → OpenSection
@@ -137,7 +137,7 @@ beginning at content =
     record {
       start = at + argument_in (bracket_of content);
       size = length (argument_from content (argument_in (bracket_of content)));
-      conductors = untold;
+      conductors = None;
       kinds = replicate matrix_kinds 0;
       kind = 0;
     }
@@ -152,7 +152,7 @@ open_after at content before after o =
 
 -- a section closes: its record is staged
 abbrev pub closed_record : OpenSection → State → SectionRecord
-closed_record o s = record_with o s.section.method (told_or o.conductors 0) (λ (k : ℕ). get_or o.kinds k 0)
+closed_record o s = record_with o s.section.method (unwrap_or o.conductors 0) (λ (k : ℕ). get_or o.kinds k 0)
 
 unfoldable pub sections_after : OpenSection → State → ℕ → ℕ → List ℕ → List ℕ
 sections_after o s before after sections =
@@ -169,7 +169,7 @@ section_with conductors index o =
     record {
       start = o.start;
       size = o.size;
-      conductors = first_told o.conductors conductors;
+      conductors = option_or o.conductors (Some conductors);
       kinds = kinds_with o.kinds o.kind index;
       kind = o.kind;
     }

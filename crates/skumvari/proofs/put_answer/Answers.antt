@@ -1,10 +1,16 @@
--- `skumvari::put_answer` meets its contract: the four words where there is room.
+-- `skumvari::put_answer` meets its contract: the words where there is room.
 -- Assumes nothing.
-use Rattle.skumvari.proofs.AnswerLaws.{room_none, room_there, answer_left, answer_put}
+use Rattle.skumvari.proofs.AnswerLaws.{room_none, room_there, answer_left, answer_front}
 use Rattle.skumvari.proofs.put_answer.Goals as goal
 
-pub returns-then-answer-lt-ANSWER_WORDS : goal.returns-then-answer-lt-ANSWER_WORDS
-returns-then-answer-lt-ANSWER_WORDS c = (search room_none, search answer_left)
+pub returns-then-words-answer-clause-room : goal.returns-then-words-answer-clause-room
+returns-then-words-answer-clause-room c = search room_there
 
-pub returns : goal.returns
-returns c = (search room_there, search answer_put)
+pub returns-then-words-answer-clause-written : goal.returns-then-words-answer-clause-written
+returns-then-words-answer-clause-written c = search answer_front
+
+pub returns-else-words-answer-clause-room : goal.returns-else-words-answer-clause-room
+returns-else-words-answer-clause-room c = search room_none
+
+pub returns-else-words-answer-clause-written : goal.returns-else-words-answer-clause-written
+returns-else-words-answer-clause-written c = search answer_left

@@ -6,8 +6,8 @@ use Rattle.skumvari.proofs.skumvari_double.Goals as goal
 pub float_to_bits-x : goal.float_to_bits-x
 float_to_bits-x c = search double_bits
 
-pub returns-in-Value-clause-answer_after : goal.returns-in-Value-clause-answer_after
-returns-in-Value-clause-answer_after c = search double_drawn
+pub returns-in-Some-clause-answer_after : goal.returns-in-Some-clause-answer_after
+returns-in-Some-clause-answer_after c = search double_drawn
 
-pub returns-in-Outside-clause-answer_after : goal.returns-in-Outside-clause-answer_after
-returns-in-Outside-clause-answer_after c = search double_outside
+pub returns-in-None-clause-answer_after : goal.returns-in-None-clause-answer_after
+returns-in-None-clause-answer_after c = search double_outside

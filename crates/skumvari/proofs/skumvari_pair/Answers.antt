@@ -9,8 +9,8 @@ float_to_bits-x c = search (frequency_bits, value_bits)
 pub float_to_bits-y : goal.float_to_bits-y
 float_to_bits-y c = search (frequency_bits, value_bits)
 
-pub returns-in-Pair-clause-answer_after : goal.returns-in-Pair-clause-answer_after
-returns-in-Pair-clause-answer_after c = search pair_drawn
+pub returns-in-Some-clause-answer_after : goal.returns-in-Some-clause-answer_after
+returns-in-Some-clause-answer_after c = search pair_drawn
 
-pub returns-in-Outside-clause-answer_after : goal.returns-in-Outside-clause-answer_after
-returns-in-Outside-clause-answer_after c = search pair_outside
+pub returns-in-None-clause-answer_after : goal.returns-in-None-clause-answer_after
+returns-in-None-clause-answer_after c = search pair_outside

@@ -6,15 +6,15 @@ use Rattle.store_table.proofs.put_steps.Goals as goal
 pub loop-i-init : goal.loop-i-init
 loop-i-init c = search storing_start
 
-pub step_at-step-requires : goal.step_at-step-requires
-step_at-step-requires c = search from_inside
+pub at-step-requires : goal.at-step-requires
+at-step-requires c = search from_inside
 
 pub put_step-requires : goal.put_step-requires
 put_step-requires c = (search rules, search to_inside)
 
 pub loop-i-preserved : goal.loop-i-preserved
-loop-i-preserved c = storing_on _ _ _ _ _ _ _ _ _ _ _ c.loop-i.invariant (search rules) (λ x. refl) _
-    c.step_at-step.ensures _ c.put_step.ensures
+loop-i-preserved c = storing_on _ _ _ _ _ _ _ _ _ c.loop-i.invariant (search rules) (λ x. refl) _
+    c.at-step.ensures _ c.put_step.ensures
 
 pub returns : goal.returns
 returns c = search storing_done

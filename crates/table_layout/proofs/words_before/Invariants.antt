@@ -2,14 +2,10 @@
 -- parts that are left are all the words needed.
 -- Assumes nothing.
 use mathlib.Core.Path.{◌≡◌}
-use Prim.Native.Nat.{◌+◌, ◌-◌, ◌≤◌}
-use lib.ListN.{length, drop}
-use Rattle.table_layout.specs.Layout.{widths, part_count, needed}
+use Prim.Native.Nat.{◌+◌}
+use lib.ListN.{drop}
+use Rattle.table_layout.specs.Layout.{widths, needed}
 use Rattle.table_layout.proofs.words_before.Given as goal
 
 abbrev pub invariant-loop-next : goal.invariant-loop-next
-invariant-loop-next l = (l.next ≤ l.part) × (l.part ≤ part_count) × (length l.counts ≡ part_count)
-    × (l.words + needed (drop l.next widths) (drop l.next l.counts) ≡ needed widths l.counts)
-
-abbrev pub decreases-loop-next : goal.decreases-loop-next
-decreases-loop-next l = l.part - l.next
+invariant-loop-next l = l.words + needed (drop l.next widths) (drop l.next l.counts) ≡ needed widths l.counts

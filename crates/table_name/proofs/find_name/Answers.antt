@@ -1,5 +1,5 @@
 use borrow.Author.Rules.{rules}
-use Rattle.table_name.proofs.SearchLaws.{search_starts, search_ends, name_inside, place_fits, search_finds, search_on}
+use Rattle.table_name.proofs.SearchLaws.{search_starts, search_ends, name_inside, search_finds, search_on}
 use Rattle.table_name.proofs.find_name.Goals as goal
 
 pub loop-i-init : goal.loop-i-init
@@ -10,9 +10,6 @@ name_at-own-requires c = search name_inside
 
 pub returns-then-has_name : goal.returns-then-has_name
 returns-then-has_name c = search search_finds
-
-pub overflow_add-at : goal.overflow_add-at
-overflow_add-at c = search place_fits
 
 pub loop-i-preserved : goal.loop-i-preserved
 loop-i-preserved c = (search search_on, search rules)

@@ -3,14 +3,14 @@ use native.Mathlib.Omega.{arith}
 use Rattle.table_name.proofs.MarkLaws.{step_inside, mark_starts, mark_ends, mark_on}
 use Rattle.table_name.proofs.hash_of.Goals as goal
 
-pub loop-next-init : goal.loop-next-init
-loop-next-init c = search mark_starts
+pub loop-b-init : goal.loop-b-init
+loop-b-init c = search mark_starts
 
-pub overflow_add-mark-in-loop-next : goal.overflow_add-mark-in-loop-next
-overflow_add-mark-in-loop-next c = omega (arith, step_inside (c.loop-next.mark * 37 + c.wide.result))
+pub overflow_add-mark-in-loop-b : goal.overflow_add-mark-in-loop-b
+overflow_add-mark-in-loop-b c = omega (arith, step_inside (c.loop-b.mark * 37 + c.from.result))
 
-pub loop-next-preserved : goal.loop-next-preserved
-loop-next-preserved c = search mark_on
+pub loop-b-preserved : goal.loop-b-preserved
+loop-b-preserved c = search mark_on
 
 pub returns : goal.returns
 returns c = search mark_ends

@@ -1,12 +1,15 @@
-use borrow.Author.Rules.{rules}
-use Rattle.base.proofs.RunLaws.{block_start, block_goes, block_done}
+use Rattle.std.proofs.Common.{rules, refl, length, ◌≤◌}
+use Rattle.base.proofs.IfLaws.{both_rest}
+use Rattle.base.proofs.RunLaws.{tested_goes, tested_done}
 use Rattle.base.proofs.fast.is_block.Goals as goal
 
-pub loop-i-init : goal.loop-i-init
-loop-i-init c = (search rules, search rules, search rules, search block_start)
+pub loop-b-init : goal.loop-b-init
+loop-b-init g c = both_rest _ _ refl
 
-pub loop-i-preserved : goal.loop-i-preserved
-loop-i-preserved c = (search rules, search rules, search rules, block_goes _ _ _ _ _ _ _ _ c.requires c.loop-i.invariant.2 c.loop-i.invariant.3 c.loop-i-test.true _ _ c.in_class.ensures c.and-whole.ensures)
+pub loop-b-preserved : goal.loop-b-preserved
+loop-b-preserved g c = search (rules, tested_goes)
 
 pub returns : goal.returns
-returns c = search block_done
+returns g c =
+    let past : length c.args.block.now ≤ c.loop-b.b-index = search rules in
+    tested_done _ _ _ _ _ c.loop-b.invariant past

@@ -1,15 +1,8 @@
--- `base::fast::is_block` meets its contract. The loop's invariant: what it has found and the bytes that are left give the whole.
--- Assumes nothing.
-use mathlib.Core.Path.{◌≡◌}
-use Prim.Native.Nat.{◌+◌, ◌-◌, ◌≤◌}
-use lib.ListN.{take, drop}
+use Rattle.std.proofs.Common.{◌≡◌, drop}
 use Rattle.base.specs.If.{both}
 use Rattle.base.specs.Runs.{all}
-use Rattle.base.specs.Way.Class.{in_class}
 use Rattle.base.proofs.fast.is_block.Given as goal
 
-abbrev pub invariant-loop-i : goal.invariant-loop-i
-invariant-loop-i l = (l.from ≤ l.i) × (l.i ≤ l.end) × (l.end ≡ l.from + 16) × (both l.whole (all (in_class l.class) (take (l.end - l.i) (drop l.i l.s))) ≡ all (in_class l.class) (take 16 (drop l.from l.s)))
-
-abbrev pub decreases-loop-i : goal.decreases-loop-i
-decreases-loop-i l = l.end - l.i
+-- what it has found and the bytes that are left give the whole
+abbrev pub invariant-loop-b : goal.invariant-loop-b
+invariant-loop-b g l = both l.whole (all (g.C.ByteClass.holds l.class) (drop l.b-index l.block)) ≡ all (g.C.ByteClass.holds l.class) l.block

@@ -1,6 +1,5 @@
 -- `cross_names::maps::map_finding` meets its contract. The loop's invariant: the maps left give what all of them break first.
 -- Assumes nothing.
-use Prim.Native.Nat.{◌-◌}
 use mathlib.Core.Path.{◌≡◌}
 use lib.ListN.{length}
 use Rattle.table_name.specs.Way.Hash.{marks_many}
@@ -9,6 +8,3 @@ use Rattle.cross_names.proofs.maps.map_finding.Given as goal
 
 abbrev pub invariant-loop-i : goal.invariant-loop-i
 invariant-loop-i l = MapsLeft l.text l.i × (length l.marks ≡ marks_many)
-
-abbrev pub decreases-loop-i : goal.decreases-loop-i
-decreases-loop-i l = l.count - l.i

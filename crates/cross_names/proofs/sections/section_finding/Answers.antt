@@ -1,6 +1,6 @@
 use borrow.Author.Rules.{rules}
 use Rattle.cross_rules.proofs.TableLaws.{text_rooms}
-use Rattle.cross_names.proofs.SectionLaws.{sections_start, index_fits, finding_none, finding_here, finding_later}
+use Rattle.cross_names.proofs.SectionLaws.{sections_start, finding_none, finding_here, finding_later}
 use Rattle.cross_names.proofs.sections.section_finding.Goals as goal
 
 pub used_sections-used-requires : goal.used_sections-used-requires
@@ -14,9 +14,6 @@ section_rule-rule-requires c = search (rules, text_rooms)
 
 pub returns-then-rule-ne0 : goal.returns-then-rule-ne0
 returns-then-rule-ne0 c = search finding_here
-
-pub overflow_add-i : goal.overflow_add-i
-overflow_add-i c = search index_fits
 
 pub loop-i-preserved : goal.loop-i-preserved
 loop-i-preserved c = search finding_later

@@ -1,45 +1,33 @@
-use native.Mathlib.Omega.{arith}
-use Rattle.lex_line.proofs.ShortLaws.{running_starts, running_passes, running_on, running_order, running_ends}
+use Rattle.std.proofs.Common.{arith, rules, tests, ap, ◌∙◌}
+use Rattle.std.proofs.option.Match.{if_some}
+use Rattle.base.specs.Runs.{all}
+use Rattle.lex_line.specs.Way.LineFeeds.{is_line_byte, line_feeds}
+use Rattle.lex_line.proofs.ShortLaws.{running_starts, running_on, running_order, running_ends, block_front}
 use Rattle.lex_line.proofs.fast.past_ends.Goals as goal
 
-pub loop-here-init : goal.loop-here-init
-loop-here-init c = (omega arith, search running_starts)
-
-pub overflow_sub-text : goal.overflow_sub-text
-overflow_sub-text c = omega arith
-
-pub are_line_bytes-requires : goal.are_line_bytes-requires
-are_line_bytes-requires c = omega arith
-
-pub returns-then-not-are_line_bytes : goal.returns-then-not-are_line_bytes
-returns-then-not-are_line_bytes c = search running_passes
-
-pub line_feeds_in-ends-requires : goal.line_feeds_in-ends-requires
-line_feeds_in-ends-requires c = omega arith
-
-pub overflow_cast-count : goal.overflow_cast-count
-overflow_cast-count c = omega arith
-
-pub overflow_add-count : goal.overflow_add-count
-overflow_add-count c = omega arith
-
-pub overflow_add-here : goal.overflow_add-here
-overflow_add-here c = omega arith
+pub loop-block-init : goal.loop-block-init
+loop-block-init c = (omega arith, search running_starts)
 
 pub overflow_sub-here : goal.overflow_sub-here
-overflow_sub-here c = search running_order
+overflow_sub-here c =
+    let parts = if_some _ _ _ c.in-Some.is c.split_first_chunk.ensures.cases in
+    let front = block_front c.args.text.now _ c.loop-block.here _ parts.0 parts.2 in
+    let told = c.is_block.ensures ∙ ap (all is_line_byte) front.0 in
+    let counted = c.line_feeds_in-ends.ensures ∙ ap line_feeds front.0 in
+    running_order _ _ _ _ _ c.loop-block.invariant.1 front.1 _ c.requires.1 c.loop-block.invariant.0 _ told (search (rules, tests)) _ counted _ c.last_end-mark.ensures
+
+pub loop-block-preserved : goal.loop-block-preserved
+loop-block-preserved c =
+    let parts = if_some _ _ _ c.in-Some.is c.split_first_chunk.ensures.cases in
+    let front = block_front c.args.text.now _ c.loop-block.here _ parts.0 parts.2 in
+    let told = c.is_block.ensures ∙ ap (all is_line_byte) front.0 in
+    let counted = c.line_feeds_in-ends.ensures ∙ ap line_feeds front.0 in
+    (search rules, rw c.from-count.ensures (running_on _ _ _ _ _ c.loop-block.invariant.1 front.1 _ c.requires.1 c.loop-block.invariant.0 _ told (search (rules, tests)) _ counted _ c.last_end-mark.ensures))
 
 pub returns-then-most-here : goal.returns-then-most-here
-returns-then-most-here c = running_ends _ _ _ _ _ c.loop-here.invariant.1 c.loop-here-test.true _
-    c.requires.1 c.loop-here.invariant.0 _
-    c.are_line_bytes.ensures c.if-not-are_line_bytes.false-raw _ c.line_feeds_in-ends.ensures _
-    c.last_end-mark.ensures
-
-pub loop-here-smaller : goal.loop-here-smaller
-loop-here-smaller c = omega arith
-
-pub loop-here-preserved : goal.loop-here-preserved
-loop-here-preserved c = (omega arith, search running_on)
-
-pub returns : goal.returns
-returns c = search running_passes
+returns-then-most-here c =
+    let parts = if_some _ _ _ c.in-Some.is c.split_first_chunk.ensures.cases in
+    let front = block_front c.args.text.now _ c.loop-block.here _ parts.0 parts.2 in
+    let told = c.is_block.ensures ∙ ap (all is_line_byte) front.0 in
+    let counted = c.line_feeds_in-ends.ensures ∙ ap line_feeds front.0 in
+    rw c.from-count.ensures (running_ends _ _ _ _ _ c.loop-block.invariant.1 front.1 _ c.requires.1 c.loop-block.invariant.0 _ told (search (rules, tests)) _ counted _ c.last_end-mark.ensures)

@@ -6,8 +6,8 @@ use lib.ListN.{length}
 use Rattle.lex_line.proofs.ShortLaws.{Running}
 use Rattle.lex_line.proofs.fast.past_ends.Given as goal
 
-abbrev pub invariant-loop-here : goal.invariant-loop-here
-invariant-loop-here l = (l.here - l.mark ≤ l.most) × Running l.text l.line l.count l.mark l.here
+abbrev pub invariant-loop-block : goal.invariant-loop-block
+invariant-loop-block l = (l.here - l.mark ≤ l.most) × Running l.text l.line l.count l.mark l.here
 
-abbrev pub decreases-loop-here : goal.decreases-loop-here
-decreases-loop-here l = length l.text - l.here
+abbrev pub decreases-loop-block : goal.decreases-loop-block
+decreases-loop-block l = length l.text - l.here

@@ -1,25 +1,16 @@
-use borrow.Author.Rules.{rules}
-use native.Mathlib.Omega.{arith}
-use Rattle.lex_line.proofs.SureLaws.{sure_on, sure_whole}
+use Rattle.std.proofs.Common.{rules, arith, tests}
+use Rattle.std.proofs.option.Match.{if_some}
+use Rattle.lex_line.proofs.SureLaws.{rest_on, rest_behind}
 use Rattle.lex_line.proofs.fast.skip_content.Goals as goal
 
-pub overflow_sub-text : goal.overflow_sub-text
-overflow_sub-text c = omega arith
-
-pub content_of_eight-sure-requires : goal.content_of_eight-sure-requires
-content_of_eight-sure-requires c = omega arith
-
-pub overflow_add-result : goal.overflow_add-result
-overflow_add-result c = omega arith
-
 pub returns-then-sure-lt-EIGHT : goal.returns-then-sure-lt-EIGHT
-returns-then-sure-lt-EIGHT c = search (sure_on, rules)
+returns-then-sure-lt-EIGHT c =
+    let parts = if_some _ _ _ c.in-Some.is c.split_first_chunk.ensures.cases in
+    let left = c.loop-eight.invariant in
+    rest_on _ _ _ _ _ left.0 left.1 (omega (arith, parts.2)) parts.0 c.content_of_eight-sure.ensures.0 c.content_of_eight-sure.ensures.1 left.2
 
-pub overflow_add-i : goal.overflow_add-i
-overflow_add-i c = omega arith
-
-pub loop-i-smaller : goal.loop-i-smaller
-loop-i-smaller c = omega arith
-
-pub loop-i-preserved : goal.loop-i-preserved
-loop-i-preserved c = (omega arith, search sure_whole)
+pub loop-eight-preserved : goal.loop-eight-preserved
+loop-eight-preserved c =
+    let parts = if_some _ _ _ c.in-Some.is c.split_first_chunk.ensures.cases in
+    let left = c.loop-eight.invariant in
+    rest_behind _ _ _ _ _ left.0 left.1 (omega (arith, parts.2)) parts.0 c.content_of_eight-sure.ensures.0 c.content_of_eight-sure.ensures.1 left.2 _ parts.1 (search (rules, tests))

@@ -1,10 +1,7 @@
--- `lex_number::fast::are_four` meets its contract: by the halves of each byte.
+-- `lex_number::fast::are_four` meets its contract: the two comparisons decide.
 -- Assumes nothing.
-use Rattle.lex_number.proofs.PairLaws.{not_digits, four_digits}
+use Rattle.lex_number.proofs.PairLaws.{four_digits}
 use Rattle.lex_number.proofs.fast.are_four.Goals as goal
 
-pub returns-then-word-ne808464432 : goal.returns-then-word-ne808464432
-returns-then-word-ne808464432 c = search not_digits
-
-pub returns : goal.returns
-returns c = search four_digits
+pub returns-then-word-eq808464432 : goal.returns-then-word-eq808464432
+returns-then-word-eq808464432 c = search four_digits

@@ -8,6 +8,3 @@ use Rattle.lex_number.proofs.fast.read_run.Given as goal
 
 abbrev pub invariant-loop-i : goal.invariant-loop-i
 invariant-loop-i l = (l.from ≤ l.i) × (l.i < length l.s) × (l.i - l.from ≤ l.stop - l.from) × (weight l.value l.i l.stop ≤ weight l.before l.from l.stop) × Runs l.s l.i l.value (run_from l.s l.from l.before)
-
-abbrev pub decreases-loop-i : goal.decreases-loop-i
-decreases-loop-i l = l.stop - l.i

@@ -1,16 +1,11 @@
--- `lex_number::fast::short_number` meets its contract: a number behind which its word ends is its word's.
+-- `lex_number::fast::short_number` meets its contract: where the number is known, it is the one at `from`.
 -- Assumes nothing.
-use Rattle.lex_number.proofs.InLaws.{unknown_knows, number_plain}
+use Rattle.std.proofs.Common.{◌-◌, ◌<◌, ◌≤◌, length, arith}
+use Rattle.lex_number.proofs.InLaws.{number_plain}
 use Rattle.lex_number.proofs.fast.short_number.Goals as goal
 
-pub returns-then-s-from : goal.returns-then-s-from
-returns-then-s-from c = search unknown_knows
-
-pub returns-then-s-from-lt-ROOM : goal.returns-then-s-from-lt-ROOM
-returns-then-s-from-lt-ROOM c = search unknown_knows
-
-pub returns-then-not-digits : goal.returns-then-not-digits
-returns-then-not-digits c = search unknown_knows
-
 pub returns : goal.returns
-returns c = search number_plain
+returns c =
+    let room : 40 ≤ length c.args.s.now - c.args.from = omega arith in
+    let inside : c.args.from < length c.args.s.now = omega arith in
+    number_plain _ _ _ c.requires inside room _ c.parts_of-parts.ensures _ _ c.contains.ensures c.if-contains.false c.if-not-digits.false c.plain_value.ensures

@@ -1,16 +1,12 @@
 -- `table_record::stage::put` meets its contract: by whether there is room.
 -- Assumes nothing.
-use Rattle.table_record.proofs.StageLaws.{put_none, put_room, put_some, put_small}
+use Rattle.table_record.proofs.StageLaws.{put_left, put_stored}
 use Rattle.table_record.proofs.stage.put.Goals as goal
 
-pub returns-then-room-index : goal.returns-then-room-index
-returns-then-room-index c = search put_none
+pub returns-then-index-room : goal.returns-then-index-room
+returns-then-index-room g c =
+    put_stored _ _ _ _ (g.met.W.Words.all_words c.args.item) _ c.WIDTH.ensures c.if-index-room.true _ c.WIDTH-then-index-room.ensures _ c.put_at.ensures
 
-pub overflow_mul-words : goal.overflow_mul-words
-overflow_mul-words c = search put_small
-
-pub put_words-requires : goal.put_words-requires
-put_words-requires c = search put_room
-
-pub returns : goal.returns
-returns c = search put_some
+pub returns-else-index-room : goal.returns-else-index-room
+returns-else-index-room g c =
+    put_left _ _ _ _ (g.met.W.Words.all_words c.args.item) _ c.WIDTH.ensures g.met.W.Words.some_words c.if-index-room.false

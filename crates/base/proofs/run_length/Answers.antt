@@ -1,0 +1,16 @@
+use Rattle.std.proofs.Common.{rules, tests, ◌≡◌, true, false}
+use Rattle.std.proofs.lemmas.Iterator.{IsFirst-from_position, YieldsList-from_slice, index_from_first}
+use Rattle.base.specs.Runs.{run}
+use Rattle.base.proofs.RunLaws.{run_nil, run_stops, run_goes_on, run_le}
+use Rattle.base.proofs.run_length.Goals as goal
+
+-- the first byte that is not in the class ends the run
+pub returns-clause-length : goal.returns-clause-length
+returns-clause-length g c =
+    let p = g.C.ByteClass.holds c.args.class in
+    let first = IsFirst-from_position _ _ _ (λ b. p b ≡ false) (λ b. p b ≡ true) c.position.ensures.ran (YieldsList-from_slice _ c.iter.ensures.rest) (λ b f called. search (rules, tests)) (λ b f called. search (rules, tests)) in
+    let long = index_from_first (run p) _ _ (run_nil p) (run_stops p) (run_goes_on p) _ _ first in
+    search (rules, long)
+
+pub returns-clause-inside : goal.returns-clause-inside
+returns-clause-inside g c = search (rules, run_le)

@@ -1,9 +1,0 @@
--- `test_questions::bytes_of` is safe and ends: the part lies within the room.
--- Assumes nothing.
-use mathlib.Core.Path.{sym}
-use native.Mathlib.Omega.{arith}
-use lib.Seq.{length-take-le}
-use Rattle.test_questions.proofs.bytes_of.Goals as goal
-
-pub slice_bounds-result-end-2 : goal.slice_bounds-result-end-2
-slice_bounds-result-end-2 c = sym (length-take-le _ _ (omega arith))
