@@ -9,16 +9,16 @@ use mir.Val.{Fits}
 use native.Mathlib.Nat.{le_of_suc-le-suc, zero-add, suc-add, le_refl}
 use native.Mathlib.Numerals.{add-one}
 use native.Mathlib.Omega.{arith}
-use lib.ListN.{length, take, drop, get_or, drop_of_length-le, length-drop, get_or-eq_default}
+use lib.ListN.{length, take, drop, get_or, drop_of_length-le, length-drop}
 use lib.Seq.{drop-cons, drop-drop, get_or-drop, length-take-le}
 use lib.Dec.{eqb}
-use borrow.Author.Tests.{eqb-true, eq-eqb, ne_eqb, not-true, not-false}
+use borrow.Author.Tests.{eqb-true, eq-eqb, not-true, not-false}
 use Rattle.base.specs.If.{provided◌then◌else◌, both}
 use Rattle.base.specs.Runs.{run, all, same}
 use Rattle.std.specs.Bool.{MatchBool}
 use Rattle.std.specs.List.{AllWithin, HoldsAt}
 use Rattle.base.specs.Way.Class.{run_end, RunsOn}
-use Rattle.base.proofs.IfLaws.{if_true, if_false, by_test, by_cases, both_true, both_not_left, both_not_right, both_rest, both_first, both_second, both_assoc, both_and}
+use Rattle.base.proofs.IfLaws.{if_true, if_false, by_test, by_cases, both_true, both_not_right, both_first, both_second, both_assoc, both_and}
 
 pub run_cons : (p : ℕ → Bool) (b : ℕ) (s : List ℕ) → run p (b ∷ s) ≡ (provided p b then suc (run p s) else zero)
 unfolding run

@@ -1,13 +1,12 @@
 -- Laws of stores into a lent table: several words stored one by one, and zeros up to the end.
 -- Assumes nothing.
 use mathlib.Core.Path.{◌≡◌, sym, ◌∙◌}
-use mathlib.Core.List.{List, [], ◌∷◌, ◌++◌, append_assoc, append-nil}
-use Prim.Native.Nat.{ℕ, suc, ◌+◌, ◌-◌, ◌≤◌, ◌<◌}
-use native.Mathlib.Nat.{add-suc, sub-zero, add-zero}
-use native.Mathlib.Numerals.{add-one}
+use mathlib.Core.List.{List, [], ◌∷◌, ◌++◌, append_assoc}
+use Prim.Native.Nat.{ℕ, suc, ◌+◌, ◌-◌, ◌≤◌}
+use native.Mathlib.Nat.{add-zero}
 use native.Mathlib.Omega.{arith}
-use lib.ListN.{length, take, drop, get_or, set, replicate, drop_of_length-le, length-set}
-use lib.Seq.{drop-cons, sets, sets-eq, take_all, take-suc-set}
+use lib.ListN.{length, take, drop, set}
+use lib.Seq.{sets, sets-eq}
 use borrow.Rule.Slice.PartMut.{put_mid, Post-is}
 
 -- a part of a table that holds these words now
