@@ -6,11 +6,10 @@ use mathlib.Core.Bool.{true, false}
 use mathlib.Core.List.{List, [], ◌∷◌, ◌++◌}
 use Prim.Native.Nat.{ℕ, suc, ◌+◌, ◌-◌, ◌≤◌, ◌<◌, min}
 use native.Mathlib.Nat.{min-eq_left, le_of_lt}
+use native.Mathlib.Numerals.{add-one}
 use native.Mathlib.Omega.{arith}
-use lib.ListN.{take, length, drop, set, length-append, length-take, take-append-drop}
-use lib.Seq.{sets-eq, take-append_seam, take_all, sets, length-sets, set_out}
-use borrow.Rule.Slice.PartMut.{put_mid}
-use Rattle.std.proofs.lemmas.Slice.{put_mid-paste}
+use lib.ListN.{take, length, drop, get_or, set, length-append, length-take, take-append-drop}
+use lib.Seq.{sets-eq, take-append_seam, take_all, take-suc, sets, length-sets, set_out}
 use lib.Dec.{leb}
 use borrow.Author.Tests.{leb-true, leb-false}
 use Rattle.base.proofs.IfLaws.{by_cases}
@@ -134,19 +133,20 @@ sets_fitting out bytes start size h e =
     ∙ sym (sets_append out start (take size bytes) (drop size bytes))
     ∙ ap (sets out start) (take-append-drop size bytes))
 
-pub fitting_written : (out bytes : List ℕ) (at start size : ℕ) → start ≡ min at (length out) → size ≡ min (length bytes) (length out - start) →
-    (part : List ℕ) → part ≡ take size bytes → Written out (put_mid start (start + size - start) out part) at (start + size) bytes
-fitting_written out bytes at start size s e part p =
+-- one more byte stored
+pub stored_on : (out bytes now : List ℕ) (start size i : ℕ) → now ≡ sets out start (take i bytes) → i < size → size ≡ min (length bytes) (length out - start) →
+    set now (start + i) (get_or bytes i 0) ≡ sets out start (take (i + 1) bytes)
+stored_on out bytes now start size i e h s =
+    let k : i < length bytes = omega arith in
+    let l : length (take i bytes) ≡ i = length-take i bytes ∙ min-eq_left (le_of_lt k) in
+    rw (e, add-one i, take-suc bytes i 0 k, sets_append out start (take i bytes) (get_or bytes i 0 ∷ []), l) refl
+
+pub fitting_written : (out bytes now : List ℕ) (at start size : ℕ) → start ≡ min at (length out) → size ≡ min (length bytes) (length out - start) →
+    now ≡ sets out start (take size bytes) → Written out now at (start + size) bytes
+fitting_written out bytes now at start size s e p =
     let h : start ≤ length out = omega arith in
-    let l : length part ≡ size = ap length p ∙ length-take size bytes ∙ omega arith in
-    let k : start + size - start ≡ length part = omega arith in
-    let m : start + length part ≤ length out = omega arith in
     record {
-      image = put_mid-paste start (start + size - start) out part part (length part) refl (sym k) refl
-          ∙ ap (λ (xs : List ℕ). (take start out ++ xs) ++ drop (start + length part) out) (take_all (length part) part (omega arith))
-          ∙ sym (sets-eq part out start m)
-          ∙ ap (sets out start) p
-          ∙ sets_fitting out bytes start size h e ∙ ap (λ (k : ℕ). sets out k bytes) s ∙ sets_cut out at bytes;
+      image = p ∙ sets_fitting out bytes start size h e ∙ ap (λ (k : ℕ). sets out k bytes) s ∙ sets_cut out at bytes;
       place = omega arith;
     }
 

@@ -23,7 +23,10 @@ fn put_bytes(out: &mut [u8], at: usize, bytes: &[u8]) -> usize
 {
     let start = at.min(out.len());
     let size = bytes.len().min(out.len() - start);
-    out[start..start + size].copy_from_slice(&bytes[..size]);
+    // Byte by byte: `copy_from_slice` would have the archive for C ask its host for `memmove`.
+    for i in 0..size {
+        out[start + i] = bytes[i];
+    }
     start + size
 }
 
