@@ -1,20 +1,15 @@
 -- Laws of the order of values, by row and then by column: it is transitive, and two values that do not come before each
 -- other have the same row and column.
 -- Assumes nothing.
-use mathlib.Core.Path.{◌≡◌, refl, sym, ◌∙◌}
-use Rattle.std.proofs.Common.{subst}
-use Rattle.std.specs.Ordering.{MatchOrdering, nat_cmp, ordering_then}
-use Rattle.std.specs.declared.cmp.Ordering.{Ordering}
-use Rattle.std.specs.declared.cmp.Ordering.TheVariants.{Less, Equal, Greater}
-use Rattle.std.proofs.lemmas.Cmp.{ranked}
+use mathlib.Core.Path.{◌≡◌, sym, ◌∙◌}
 use mathlib.Core.Bool.{true, false}
-use Prim.Native.Nat.{◌<◌}
+use Prim.Native.Nat.{◌≤◌, ◌<◌}
 use native.Mathlib.Omega.{arith}
 use lib.Dec.{ltb, eqb}
-use borrow.Author.Tests.{ne_eqb, eqb-true, ltb-true}
+use borrow.Author.Tests.{eq-eqb, ne_eqb, eqb-true, ltb-true, ltb-false}
 use Rattle.table_record.specs.declared.Value.{Value}
 use Rattle.base.specs.If.{both}
-use Rattle.base.proofs.IfLaws.{by_cases, both_not_left, both_not_right, both_first, both_second, either_rest}
+use Rattle.base.proofs.IfLaws.{by_cases, both_rest, both_not_left, both_not_right, both_first, both_second, either_rest, either_none_first, either_none_second}
 use Rattle.doc.specs.Holds.{comes_before}
 
 pub data Before (u v : Value) : Type 0 where
@@ -45,19 +40,19 @@ pub behind_other : (u v : Value) → Before u v → both (eqb v.row u.row) (eqb 
 behind_other u v (Before.rows h) = both_not_left _ _ (ne_eqb _ _ (λ (e : v.row ≡ u.row). omega arith))
 behind_other u v (Before.columns e h) = both_not_right _ _ (ne_eqb _ _ (λ (f : v.column ≡ u.column). omega arith))
 
--- what the order of the two pairs of row and column says
-module _ (u v : Value) where
-  abbrev pub Tells : Ordering → Type 0
-  Tells o = MatchOrdering o (Before u v) ((u.row ≡ v.row) × (u.column ≡ v.column)) (Before v u)
+module _ (u v : Value) (no_first : comes_before u v ≡ false) (no_second : comes_before v u ≡ false) where
+  pub same_row : u.row ≡ v.row
+  unfolding comes_before
+  same_row =
+      let h : v.row ≤ u.row = ltb-false u.row v.row (either_none_first _ _ no_first) in
+      let k : u.row ≤ v.row = ltb-false v.row u.row (either_none_first _ _ no_second) in
+      omega arith
 
-  by_pairs : (r s : Ordering) → MatchOrdering r (u.row < v.row) (u.row ≡ v.row) (v.row < u.row) →
-      MatchOrdering s (u.column < v.column) (u.column ≡ v.column) (v.column < u.column) → Tells (ordering_then r s)
-  by_pairs Less s h k = Before.rows h
-  by_pairs Equal Less h k = Before.columns h k
-  by_pairs Equal Equal h k = (h, k)
-  by_pairs Equal Greater h k = Before.columns (sym h) k
-  by_pairs Greater s h k = Before.rows h
-
-  pub order_tells : (o : Ordering) → o ≡ ordering_then (nat_cmp u.row v.row) (nat_cmp u.column v.column) → Tells o
-  order_tells o e =
-      subst Tells (sym e) (by_pairs (nat_cmp u.row v.row) (nat_cmp u.column v.column) (ranked u.row v.row _ refl) (ranked u.column v.column _ refl))
+  pub same_column : u.column ≡ v.column
+  unfolding comes_before
+  same_column =
+      let h : v.column ≤ u.column =
+      ltb-false u.column v.column (sym (both_rest _ _ (eq-eqb u.row v.row same_row)) ∙ either_none_second _ _ no_first) in
+      let k : u.column ≤ v.column =
+      ltb-false v.column u.column (sym (both_rest _ _ (eq-eqb v.row u.row (sym same_row))) ∙ either_none_second _ _ no_second) in
+      omega arith

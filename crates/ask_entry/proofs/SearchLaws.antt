@@ -1,10 +1,6 @@
 -- Laws of the binary search in a matrix's values, which rise. The values before one that is too early do not match, nor
 -- do those after one that is too late. So the value asked for is in the part that is left, or not written.
 -- Assumes nothing.
-use Rattle.std.proofs.Common.{subst}
-use Rattle.std.specs.Ordering.{nat_cmp, ordering_then}
-use Rattle.std.specs.declared.cmp.Ordering.{Ordering}
-use Rattle.std.specs.declared.cmp.Ordering.TheVariants.{Less, Equal, Greater}
 use mathlib.Core.Path.{◌≡◌, refl, sym, ◌∙◌, ap}
 use mathlib.Core.Bool.{Bool, true, false}
 use mathlib.Core.List.{List}
@@ -24,7 +20,7 @@ use Rattle.lex_number.specs.ValueWord.{zero_word}
 use Rattle.doc.specs.Holds.{is_in_upper_half, comes_before, rises}
 use Rattle.ask_sound.proofs.LoopLaws.{no_values}
 use Rattle.ask_entry.specs.Entry.{word_at}
-use Rattle.ask_entry.proofs.OrderLaws.{Before, before_is, before_before, before_other, behind_other, Tells, order_tells}
+use Rattle.ask_entry.proofs.OrderLaws.{Before, before_is, before_before, before_other, behind_other, same_row, same_column}
 
 -- ---- values that rise
 
@@ -196,15 +192,13 @@ module _ (table : List ℕ) (from many row column : ℕ) where
       inside : middle - low < high - low
       inside = omega arith
 
-      module _ (x : Value) (met : x ≡ value_at table (from + value_width * (low + (high - low) / 2))) (o : Ordering) (by_pairs : o ≡ ordering_then (nat_cmp x.row row) (nat_cmp x.column column)) where
-        told : (p : Ordering) → o ≡ p → Tells there (asked row column) p
-        told p e =
-            let P : Value → Type 0 = λ y. o ≡ ordering_then (nat_cmp y.row row) (nat_cmp y.column column) in
-            order_tells there (asked row column) p (sym e ∙ subst P met by_pairs)
+      module _ (x : Value) (met : x ≡ value_at table (from + value_width * (low + (high - low) / 2))) (early : Bool) (by_value : early ≡ comes_before x (asked row column)) where
+        is_early : early ≡ comes_before there (asked row column)
+        is_early = by_value ∙ ap (λ (y : Value). comes_before y (asked row column)) met
 
-        pub lies_behind : o ≡ Less → Lies table from many row column (low + (high - low) / 2 + 1) high
+        pub lies_behind : early ≡ true → Lies table from many row column (low + (high - low) / 2 + 1) high
         lies_behind e =
-            let b : Before (value_at table (from + value_width * low + value_width * (middle - low))) (asked row column) = rw at_middle at (told Less e) in
+            let b : Before (value_at table (from + value_width * low + value_width * (middle - low))) (asked row column) = rw at_middle at (before_is there (asked row column) (sym is_early ∙ e)) in
             let p : from + value_width * low + value_width * suc (middle - low) ≡ from + value_width * (middle + 1) = omega arith in
             let q : high - low - suc (middle - low) ≡ high - (middle + 1) = omega arith in
             let k : suc (middle - low) ≤ high - low = inside in
@@ -217,20 +211,24 @@ module _ (table : List ℕ) (from many row column : ℕ) where
               same = sym w ∙ lies.same;
             }
 
-        pub lies_front : o ≡ Greater → Lies table from many row column low (low + (high - low) / 2)
-        lies_front e =
-            let b : Before (asked row column) (value_at table (from + value_width * low + value_width * (middle - low))) = rw at_middle at (told Greater e) in
-            let k : middle - low ≤ high - low = omega arith in
-            let m : high ≤ many = lies.most in
-            record {
-              order = low_middle;
-              most = omega arith;
-              rising = rises_front table (from + value_width * low) (middle - low) (high - low) k lies.rising;
-              same = sym (word_front table row column (from + value_width * low) (middle - low) (high - low) inside lies.rising b) ∙ lies.same;
-            }
+        module _ (not_early : early ≡ false) (late : Bool) (by_value_too : late ≡ comes_before (asked row column) x) where
+          is_late : late ≡ comes_before (asked row column) there
+          is_late = by_value_too ∙ ap (comes_before (asked row column)) met
 
-        pub lies_here : o ≡ Equal → x.word ≡ word_at row column (values_from table from many)
-        lies_here e =
-            let r : (value_at table (from + value_width * low + value_width * (middle - low))).row ≡ row = rw at_middle at (told Equal e).0 in
-            let c : (value_at table (from + value_width * low + value_width * (middle - low))).column ≡ column = rw at_middle at (told Equal e).1 in
-            ap (λ (y : Value). y.word) met ∙ ap (λ (q : ℕ). (value_at table q).word) at_middle ∙ sym (word_here table row column (from + value_width * low) (middle - low) (high - low) inside lies.rising r c) ∙ lies.same
+          pub lies_front : late ≡ true → Lies table from many row column low (low + (high - low) / 2)
+          lies_front e =
+              let b : Before (asked row column) (value_at table (from + value_width * low + value_width * (middle - low))) = rw at_middle at (before_is (asked row column) there (sym is_late ∙ e)) in
+              let k : middle - low ≤ high - low = omega arith in
+              let m : high ≤ many = lies.most in
+              record {
+                order = low_middle;
+                most = omega arith;
+                rising = rises_front table (from + value_width * low) (middle - low) (high - low) k lies.rising;
+                same = sym (word_front table row column (from + value_width * low) (middle - low) (high - low) inside lies.rising b) ∙ lies.same;
+              }
+
+          pub lies_here : late ≡ false → x.word ≡ word_at row column (values_from table from many)
+          lies_here e =
+              let r : (value_at table (from + value_width * low + value_width * (middle - low))).row ≡ row = rw at_middle at (same_row there (asked row column) (sym is_early ∙ not_early) (sym is_late ∙ e)) in
+              let c : (value_at table (from + value_width * low + value_width * (middle - low))).column ≡ column = rw at_middle at (same_column there (asked row column) (sym is_early ∙ not_early) (sym is_late ∙ e)) in
+              ap (λ (y : Value). y.word) met ∙ ap (λ (q : ℕ). (value_at table q).word) at_middle ∙ sym (word_here table row column (from + value_width * low) (middle - low) (high - low) inside lies.rising r c) ∙ lies.same

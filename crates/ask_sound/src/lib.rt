@@ -226,10 +226,17 @@ fn is_inside(value: Value) -> bool
 }
 
 // Whether one value comes before another: by row, then by column.
-fn comes_before(value: Value, next: Value) -> bool
+pub fn comes_before(value: Value, next: Value) -> bool
     ensures { result ≡ comes_before value next }
 {
-    value.row < next.row || value.row == next.row && value.column < next.column
+    // Test by test: with `||` and `&&` LLVM builds no branches here, and the search of an entry is slower, measured.
+    if value.row < next.row {
+        return true;
+    }
+    if value.row != next.row {
+        return false;
+    }
+    value.column < next.column
 }
 
 // Whether the first of `many` values has a row and a column in bounds and comes before the second, if there is one.
