@@ -136,11 +136,11 @@ fn command_of(line: &[u8]) -> Option<Command<'_>> {
 
 // ---- questions
 
-// Prints a line as it is, after a label.
+// Prints a line as it is, after a label. What needs no formatting is written as it is, which takes less time.
 fn print_line(rt: &impl Print, label: &str, line: &[u8]) {
-    let _ = print!(rt; "{label}");
+    let _ = rt.write_all(label.as_bytes());
     let _ = rt.write_all(line);
-    let _ = println!(rt; "");
+    let _ = rt.write_all(b"\n");
 }
 
 fn print_entry(rt: &impl Print, answer: Result<u64, u64>) {
@@ -166,8 +166,10 @@ fn print_walked(rt: &impl Print, walked: Walked) {
     }
 }
 
-fn print_intake(rt: &impl Print, answer: intake::Answer) {
-    let _ = match answer {
+// Not inlined: each command would pay for the room that the intake needs on the stack.
+#[inline(never)]
+fn print_intake(rt: &impl Print, text: &[u8], table: &mut [u64]) {
+    let _ = match intake::intake(text, table) {
         intake::Answer::Accepted(words) => println!(rt; "intake accepted {words}"),
         intake::Answer::Refused(rule, line) => println!(rt; "intake refused {rule} {line}"),
     };
@@ -201,11 +203,11 @@ fn read_text<R: Files + Print + AllocGlobal>(
             if bytes.len() <= MOST {
                 *text = bytes;
             } else {
-                let _ = println!(rt; "text too long");
+                let _ = rt.write_all(b"text too long\n");
             }
         }
         None => {
-            let _ = println!(rt; "text cannot be read");
+            let _ = rt.write_all(b"text cannot be read\n");
         }
     }
     Ok(())
@@ -215,7 +217,7 @@ fn read_text<R: Files + Print + AllocGlobal>(
 fn add_line(rt: &impl Print, text: &mut Vec<u8>, line: &[u8]) -> io::Result<()> {
     let rest = line.get(5..).unwrap_or(b"");
     if MOST < text.len() + rest.len() + 1 {
-        let _ = println!(rt; "text too long");
+        let _ = rt.write_all(b"text too long\n");
         return Ok(());
     }
     text.extend_from_slice(rest)?;
@@ -254,7 +256,7 @@ fn run<R: Files + Print + AllocGlobal>(
             host.room.fill(0);
             host.words = many;
             let size = many.min(host.room.len());
-            print_intake(rt, intake::intake(&host.text, &mut host.room[..size]));
+            print_intake(rt, &host.text, &mut host.room[..size]);
         }
         Command::Size(many) => host.words = many,
         Command::Set => {
